@@ -1,0 +1,131 @@
+-- The first ground in the checking order. Assumes nothing.
+use Prim.Native.Nat.{ℕ, _≤_, _<_}
+use mathlib.Core.Path.{_≡_, refl, sym, ap, subst, _∙_}
+use mathlib.Core.Bool.{Bool, true, false, cond}
+use mathlib.Core.List.{List, [], _∷_, _++_}
+use mathlib.Core.Logic.{_⊎_, inl, inr, ⊎-elim}
+use native.Mathlib.Omega.{arith}
+use lib.Dec.{eqb}
+use lib.ListN.{length}
+use Rattle.std.specs.Options.{Cases as BySome, mapped}
+use Rattle.std.specs.declared.option.Option.{Option}
+use Rattle.std.specs.declared.option.Option.the-variants.{Some, None}
+use Rattle.std.specs.declared.result.Result.{Result}
+use Rattle.std.specs.declared.result.Result.the-variants.{Ok, Err}
+use Rattle.std.specs.shelf.Lists.{All}
+use Rattle.std.proofs.shelf.Lists.{nil-from-length}
+use Rattle.std.proofs.shelf.Ways.{tells, eqb-tells}
+use Rattle.line.specs.declared.grounds.Ground.{Ground}
+use Rattle.line.specs.declared.grounds.Ground.the-variants.{TextTooLong, LineTooLong, ByteOutside, NoMark, NotAName, WordCount, NameTaken, NotFound, ModelFull, SourceFull, NoSuchNumber, NoSuchGoal, OfferNotOpen, PageTooShort, AreaTooShort, GoalNotMet}
+use Rattle.line.specs.declared.grounds.LineFault.{LineFault}
+use Rattle.line.specs.declared.marks.Kind.{Kind}
+use Rattle.line.specs.declared.marks.Kind.the-variants.{Equation, Fault, Offer, Comment}
+use Rattle.line.specs.declared.records.Record.{Record}
+use Rattle.line.specs.Marks.{line-kind}
+use Rattle.line.specs.Objections.{Name, Marked, Worded, Unmarked, Stands, Enters, ByGrounds}
+use Rattle.line.specs.Reading.{Entry, stands, line-words, words-by, words-in, entry, entered, answer, told, reading}
+use Rattle.line.specs.Refusals.{checking-order, else-after, first-fault, FirstInOrder}
+use Rattle.line.specs.Words.{Word, words-of, is-name, odd-name}
+use Rattle.line.proofs.Standing.{Leftmost, each-ground, name-decides, kind-from-mark, mark-from-kind, unmarked}
+
+-- ---- any order, any grounds
+
+module _ (st : Ground → Option ℕ) (P : Ground → ℕ → Type 0) (each : (g : Ground) → Leftmost (st g) (P g)) where
+  abbrev First : List Ground → Option LineFault → Type 0
+  First gs o = BySome o (All (λ g. st g ≡ None) gs) (FirstInOrder P gs)
+
+  after : (g : Ground) (gs : List Ground) (o : Option LineFault) → st g ≡ None → Leftmost None (P g) → First gs o → First (g ∷ gs) o
+  after g gs None e h r = (e, r)
+  after g gs (Some f) e h r =
+      record { earlier = g ∷ r .earlier; later = r .later; whole = ap (λ l. g ∷ l) (r .whole); quiet = (h, r .quiet); stands = r .stands; leftmost = r .leftmost }
+
+  this : (g : Ground) (gs : List Ground) (o : Option ℕ) → st g ≡ o → Leftmost o (P g) → First gs (first-fault st gs) → First (g ∷ gs) (else-after g o (first-fault st gs))
+  this g gs None e h r = after g gs (first-fault st gs) e h r
+  this g gs (Some k) e h r = record { earlier = []; later = gs; whole = refl; quiet = tt; stands = h .0; leftmost = h .1 }
+
+  pub first-law : (gs : List Ground) → First gs (first-fault st gs)
+  first-law [] = tt
+  first-law (g ∷ gs) = this g gs (st g) refl (each g) (first-law gs)
+
+every-ground : (Q : Ground → Type 0) → All Q checking-order → (g : Ground) → Q g
+every-ground Q h TextTooLong = h .0
+every-ground Q h LineTooLong = h .1 .0
+every-ground Q h ByteOutside = h .1 .1 .0
+every-ground Q h NoMark = h .1 .1 .1 .0
+every-ground Q h NotAName = h .1 .1 .1 .1 .0
+every-ground Q h WordCount = h .1 .1 .1 .1 .1 .0
+every-ground Q h NameTaken = h .1 .1 .1 .1 .1 .1 .0
+every-ground Q h NotFound = h .1 .1 .1 .1 .1 .1 .1 .0
+every-ground Q h ModelFull = h .1 .1 .1 .1 .1 .1 .1 .1 .0
+every-ground Q h SourceFull = h .1 .1 .1 .1 .1 .1 .1 .1 .1 .0
+every-ground Q h NoSuchNumber = h .1 .1 .1 .1 .1 .1 .1 .1 .1 .1 .0
+every-ground Q h NoSuchGoal = h .1 .1 .1 .1 .1 .1 .1 .1 .1 .1 .1 .0
+every-ground Q h OfferNotOpen = h .1 .1 .1 .1 .1 .1 .1 .1 .1 .1 .1 .1 .0
+every-ground Q h PageTooShort = h .1 .1 .1 .1 .1 .1 .1 .1 .1 .1 .1 .1 .1 .0
+every-ground Q h AreaTooShort = h .1 .1 .1 .1 .1 .1 .1 .1 .1 .1 .1 .1 .1 .1 .0
+every-ground Q h GoalNotMet = h .1 .1 .1 .1 .1 .1 .1 .1 .1 .1 .1 .1 .1 .1 .1 .0
+
+-- ---- a line
+
+free-of : (o : Option ℕ) (P : ℕ → Type 0) → o ≡ None → Leftmost o P → (k : ℕ) → P k → ⊥
+free-of o P e h = subst (λ x. Leftmost x P) e h
+
+all-names : (ws : List Word) → odd-name ws ≡ None → All (λ w. Name (w .bytes)) ws
+all-names [] e = tt
+all-names (w ∷ ws) e = by (all-names ws) (is-name (w .bytes)) refl
+  where
+    by : (odd-name ws ≡ None → All (λ v. Name (v .bytes)) ws) → (b : Bool) → is-name (w .bytes) ≡ b → All (λ v. Name (v .bytes)) (w ∷ ws)
+    by rest true t = (name-decides (w .bytes) .0 t, rest (sym (rw t) ∙ e))
+    by rest false t = absurd (let z : Some (w .start) ≡ None = sym (rw t) ∙ e in let y : _≡_ {A = ℕ} 0 1 = cc in omega arith)
+
+worded-words : (line : List ℕ) → Worded line → line-words line ≡ words-of line
+worded-words line (inl m) = rw (kind-from-mark line Equation m)
+worded-words line (inr (inl m)) = rw (kind-from-mark line Fault m)
+worded-words line (inr (inr m)) = rw (kind-from-mark line Offer m)
+
+comment-words : (line : List ℕ) → Marked line Comment → line-words line ≡ []
+comment-words line m = rw (kind-from-mark line Comment m)
+
+empty-line : (line : List ℕ) → line-kind line ≡ None → ((k : ℕ) → Stands line NoMark k → ⊥) → line ≡ []
+empty-line [] e free = refl
+empty-line (b ∷ bs) e free = absurd (free 0 ((omega arith, unmarked (b ∷ bs) e), refl))
+
+none-mapped : (f : Kind → Entry) (m : Option Kind) → None ≡ mapped f m → m ≡ None
+none-mapped f None e = refl
+none-mapped f (Some kind) e = absurd (let y : _≡_ {A = ℕ} 0 1 = cc in omega arith)
+
+some-mapped : (f : Kind → Entry) (m : Option Kind) (x : Entry) → Some x ≡ mapped f m → (kind : Kind) × (m ≡ Some kind) × (x ≡ f kind)
+some-mapped f None x e = absurd (let y : _≡_ {A = ℕ} 0 1 = cc in omega arith)
+some-mapped f (Some kind) x e = (kind, refl, cc)
+
+enters : (line : List ℕ) (o : Option Record) → mapped (entered line) o ≡ entry line → All (λ g. stands line g ≡ None) checking-order → Enters line o
+enters line None e h =
+    let f : Kind → Entry = λ kind. record { kind = kind; words = line-words line } in
+    empty-line line (none-mapped f (line-kind line) e) (free-of (stands line NoMark) (Stands line NoMark) (every-ground (λ g. stands line g ≡ None) h NoMark) (each-ground line NoMark))
+enters line (Some r) e h =
+    let f : Kind → Entry = λ kind. record { kind = kind; words = line-words line } in
+    let s = some-mapped f (line-kind line) (entered line r) e in
+    let same : r .kind ≡ s .0 = ap (λ x. x .kind) (s .2) in
+    let words : words-in line (r .words) ≡ line-words line = ap (λ x. x .words) (s .2) in (
+      mark-from-kind line (r .kind) (s .1 ∙ ap Some (sym same)),
+      λ w. words ∙ worded-words line w,
+      λ m. words ∙ comment-words line m,
+      subst (All (λ w. Name (w .bytes))) (sym words) (all-names (line-words line) (every-ground (λ g. stands line g ≡ None) h NotAName)),
+    )
+
+reading-is : (line : List ℕ) (o : Option LineFault) → first-fault (stands line) checking-order ≡ o → reading line ≡ answer o (entry line)
+unfolding reading
+reading-is line o e = ap (λ x. answer x (entry line)) e
+
+-- what reading says of every line, in words
+pub by-grounds : (line : List ℕ) (r : Result (Option Record) LineFault) → told line r ≡ reading line → ByGrounds line r
+by-grounds line r e = by (first-fault (stands line) checking-order) refl (first-law (stands line) (Stands line) (each-ground line) checking-order) r e
+  where
+    by : (o : Option LineFault) → first-fault (stands line) checking-order ≡ o → BySome o (All (λ g. stands line g ≡ None) checking-order) (FirstInOrder (Stands line) checking-order) →
+        (r : Result (Option Record) LineFault) → told line r ≡ reading line → ByGrounds line r
+    by None f h (Ok o) e =
+        let same : mapped (entered line) o ≡ entry line = let z = e ∙ reading-is line None f in cc in
+        (λ g. free-of (stands line g) (Stands line g) (every-ground (λ x. stands line x ≡ None) h g) (each-ground line g), enters line o same h)
+    by None f h (Err x) e = absurd (let z = e ∙ reading-is line None f in let y : _≡_ {A = ℕ} 0 1 = cc in omega arith)
+    by (Some x) f h (Ok o) e = absurd (let z = e ∙ reading-is line (Some x) f in let y : _≡_ {A = ℕ} 0 1 = cc in omega arith)
+    by (Some x) f h (Err v) e = let same : x ≡ v = (let z = e ∙ reading-is line (Some x) f in cc) in subst (FirstInOrder (Stands line) checking-order) same h

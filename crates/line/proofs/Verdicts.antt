@@ -1,0 +1,58 @@
+-- Reading a line, ground by ground. Assumes nothing.
+use Prim.Native.Nat.{ℕ}
+use mathlib.Core.Path.{_≡_, refl, sym, ap, _∙_}
+use mathlib.Core.Bool.{true, false}
+use mathlib.Core.List.{List, [], _∷_}
+use lib.ListN.{length, take, length-map}
+use lib.Seq.{length-take-le}
+use native.Mathlib.Omega.{arith}
+use Rattle.std.specs.declared.option.Option.the-variants.{Some, None}
+use Rattle.std.specs.declared.result.Result.the-variants.{Ok, Err}
+use Rattle.std.proofs.shelf.Lists.{nil-from-length}
+use Rattle.line.specs.declared.grounds.Ground.the-variants.{LineTooLong, ByteOutside, NoMark, NotAName, WordCount}
+use Rattle.line.specs.declared.grounds.LineFault.{LineFault}
+use Rattle.line.specs.declared.marks.Kind.{Kind}
+use Rattle.line.specs.declared.places.Places.{Places}
+use Rattle.line.specs.Marks.{line-kind}
+use Rattle.line.specs.Reading.{stands, takes, takes-by, unless, line-words, word-in, words-in, reading}
+use Rattle.line.specs.Refusals.{fault}
+use Rattle.line.specs.Words.{Word}
+
+pub long-reads : (line : List ℕ) (k : ℕ) → stands line LineTooLong ≡ Some k → Err (fault LineTooLong k) ≡ reading line
+unfolding reading
+long-reads line k h = rw h
+
+pub odd-reads : (line : List ℕ) (k : ℕ) → stands line LineTooLong ≡ None → stands line ByteOutside ≡ Some k → Err (fault ByteOutside k) ≡ reading line
+unfolding reading
+odd-reads line k short h = rw (short, h)
+
+module _ (line : List ℕ) (short : stands line LineTooLong ≡ None) (plain : stands line ByteOutside ≡ None) where
+  pub empty-reads : length line ≡ 0 → Ok None ≡ reading line
+  unfolding reading
+  empty-reads e = let n = nil-from-length line e in rw n
+
+  pub unmarked-reads : (k : ℕ) → stands line NoMark ≡ Some k → Err (fault NoMark k) ≡ reading line
+  unfolding reading
+  unmarked-reads k h = rw (short, plain, h)
+
+  pub unnamed-reads : (k : ℕ) → stands line NoMark ≡ None → stands line NotAName ≡ Some k → Err (fault NotAName k) ≡ reading line
+  unfolding reading
+  unnamed-reads k m h = rw (short, plain, m, h)
+
+  pub miscounted-reads : (k : ℕ) → stands line NoMark ≡ None → stands line NotAName ≡ None → stands line WordCount ≡ Some k → Err (fault WordCount k) ≡ reading line
+  unfolding reading
+  miscounted-reads k m n h = rw (short, plain, m, n, h)
+
+  pub accepted-reads : (kind : Kind) (ws : List Word) → ws ≡ line-words line → line-kind line ≡ Some kind → stands line NoMark ≡ None → stands line NotAName ≡ None → stands line WordCount ≡ None →
+      Ok (Some (record { kind = kind; words = ws })) ≡ reading line
+  unfolding reading
+  accepted-reads kind ws e k m n h = rw (e, short, plain, m, n, h, k)
+
+-- as many places as words
+places-counted : (line : List ℕ) (ps : Places) → length (words-in line ps) ≡ ps .len
+places-counted line ps = length-map (take (ps .len) (ps .all)) (word-in line) ∙ length-take-le (ps .len) (ps .all) (omega (arith, ps .within .0, ps .within .1))
+
+pub count-stands : (line : List ℕ) (ps : Places) (kind : Kind) → words-in line ps ≡ line-words line → line-kind line ≡ Some kind → stands line WordCount ≡ unless (takes kind (ps .len))
+count-stands line ps kind words k =
+    let n : length (line-words line) ≡ ps .len = sym (ap length words) ∙ places-counted line ps in
+    ap (λ m. unless (takes-by (line-kind line) m)) n ∙ ap (λ o. unless (takes-by o (ps .len))) k
