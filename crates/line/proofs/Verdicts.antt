@@ -1,7 +1,7 @@
 -- Reading a line, ground by ground. Assumes nothing.
 use Prim.Native.Nat.{ℕ}
 use mathlib.Core.Path.{_≡_, refl, sym, ap, _∙_}
-use mathlib.Core.Bool.{true, false}
+use mathlib.Core.Bool.{Bool, true, false}
 use mathlib.Core.List.{List, [], _∷_}
 use lib.ListN.{length, take, length-map}
 use lib.Seq.{length-take-le}
@@ -9,14 +9,15 @@ use native.Mathlib.Omega.{arith}
 use Rattle.std.specs.declared.option.Option.the-variants.{Some, None}
 use Rattle.std.specs.declared.result.Result.the-variants.{Ok, Err}
 use Rattle.std.proofs.shelf.Lists.{nil-from-length}
-use Rattle.line.specs.declared.grounds.Ground.the-variants.{LineTooLong, ByteOutside, NoMark, NotAName, WordCount}
-use Rattle.line.specs.declared.grounds.LineFault.{LineFault}
-use Rattle.line.specs.declared.marks.Kind.{Kind}
+use Rattle.grammar.specs.declared.grounds.Ground.the-variants.{LineTooLong, ByteOutside, NoMark, NotAName, WordCount}
+use Rattle.grammar.specs.declared.grounds.LineFault.{LineFault}
+use Rattle.grammar.specs.declared.marks.Kind.{Kind}
 use Rattle.line.specs.declared.places.Places.{Places}
-use Rattle.line.specs.Marks.{line-kind}
-use Rattle.line.specs.Reading.{stands, takes, takes-by, unless, line-words, word-in, words-in, reading}
-use Rattle.line.specs.Refusals.{fault}
-use Rattle.line.specs.Words.{Word}
+use Rattle.grammar.specs.Marks.{line-kind}
+use Rattle.grammar.specs.Reading.{stands, takes, takes-by, unless, line-words, reading}
+use Rattle.line.specs.Records.{word-in, words-in}
+use Rattle.grammar.specs.Refusals.{fault}
+use Rattle.grammar.specs.Words.{Word}
 
 pub long-reads : (line : List ℕ) (k : ℕ) → stands line LineTooLong ≡ Some k → Err (fault LineTooLong k) ≡ reading line
 unfolding reading
@@ -52,7 +53,7 @@ module _ (line : List ℕ) (short : stands line LineTooLong ≡ None) (plain : s
 places-counted : (line : List ℕ) (ps : Places) → length (words-in line ps) ≡ ps .len
 places-counted line ps = length-map (take (ps .len) (ps .all)) (word-in line) ∙ length-take-le (ps .len) (ps .all) (omega (arith, ps .within .0, ps .within .1))
 
-pub count-stands : (line : List ℕ) (ps : Places) (kind : Kind) → words-in line ps ≡ line-words line → line-kind line ≡ Some kind → stands line WordCount ≡ unless (takes kind (ps .len))
-count-stands line ps kind words k =
+pub count-stands : (line : List ℕ) (ps : Places) (kind : Kind) (b : Bool) → words-in line ps ≡ line-words line → line-kind line ≡ Some kind → takes kind (ps .len) ≡ b → stands line WordCount ≡ unless b
+count-stands line ps kind b words k right =
     let n : length (line-words line) ≡ ps .len = sym (ap length words) ∙ places-counted line ps in
-    ap (λ m. unless (takes-by (line-kind line) m)) n ∙ ap (λ o. unless (takes-by o (ps .len))) k
+    ap (λ m. unless (takes-by (line-kind line) m)) n ∙ ap (λ o. unless (takes-by o (ps .len))) k ∙ ap unless right

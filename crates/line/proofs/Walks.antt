@@ -11,10 +11,11 @@ use Rattle.std.proofs.shelf.Lists.{map-append, at-drop-more, at-drop-all}
 use Rattle.std.proofs.shelf.Ways.{tells, leb-tells}
 use mathlib.Core.Logic.{_⊎_, inl, inr, ⊎-elim}
 use Rattle.line.specs.declared.places.Places.{Places}
-use Rattle.line.specs.Marks.{line-kind}
-use Rattle.line.specs.Reading.{is-plain, odd-byte, words-in, word-in}
+use Rattle.grammar.specs.Marks.{line-kind}
+use Rattle.grammar.specs.Reading.{is-plain, odd-byte}
+use Rattle.line.specs.Records.{word-in, words-in}
 use Rattle.line.specs.Taking.{NamedWord}
-use Rattle.line.specs.Words.{Word, word, words-from, words-of, is-name, odd-name}
+use Rattle.grammar.specs.Words.{Word, word, words-from, words-of, is-name, odd-name}
 
 -- one byte is no mark
 pub short-unmarked : (line : List ℕ) → length line < 2 → line-kind line ≡ None

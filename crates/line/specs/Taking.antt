@@ -10,10 +10,10 @@ use Rattle.std.specs.Results.{Cases}
 use Rattle.std.specs.declared.option.Option.{Option}
 use Rattle.std.specs.declared.option.Option.the-variants.{Some, None}
 use Rattle.std.specs.declared.result.Result.{Result}
-use Rattle.line.specs.declared.grounds.Ground.the-variants.{NotAName}
-use Rattle.line.specs.declared.grounds.LineFault.{LineFault}
-use Rattle.line.specs.Refusals.{fault}
-use Rattle.line.specs.Words.{word, words-from, is-name, odd-name}
+use Rattle.grammar.specs.declared.grounds.Ground.the-variants.{NotAName}
+use Rattle.grammar.specs.declared.grounds.LineFault.{LineFault}
+use Rattle.grammar.specs.Refusals.{fault}
+use Rattle.grammar.specs.Words.{word, words-from, is-name, odd-name}
 
 -- from p .0 to p .1 stands the first of the words from an index on
 pub record FirstWord (line : List ℕ) (from : ℕ) (p : ℕ × ℕ) : Type 0 where

@@ -1,6 +1,4 @@
 //! One line of a model text: its mark, its words and their names, and where a fault lies.
-pub mod grounds;
-pub mod marks;
 pub mod places;
 pub mod reading;
 pub mod records;

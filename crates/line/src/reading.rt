@@ -1,7 +1,7 @@
 //! A line is read ground by ground, in the order in which grounds are checked.
-use crate::grounds::Ground;
-use crate::grounds::LineFault;
-use crate::marks::Kind;
+use grammar::grounds::Ground;
+use grammar::grounds::LineFault;
+use grammar::marks::Kind;
 use crate::places::Places;
 use crate::records::Record;
 use crate::words::Words;
@@ -11,14 +11,15 @@ ghost use mathlib.Core.Path.{_≡_};
 ghost use mathlib.Core.Bool.{true, false};
 ghost use Rattle.std.specs.Options.{isSome};
 ghost use Rattle.std.specs.Results.{Cases};
-ghost use Rattle.line.specs.Refusals.{fault};
-ghost use Rattle.line.specs.Words.{words-of, odd-name};
+ghost use Rattle.grammar.specs.Refusals.{fault};
+ghost use Rattle.grammar.specs.Words.{words-of, odd-name};
 ghost use lib.ListN.{length};
 ghost use Rattle.std.specs.declared.option.Option.the-variants.{Some, None};
-ghost use Rattle.line.specs.declared.grounds.Ground.the-variants.{LineTooLong, ByteOutside, NoMark, NotAName, WordCount};
-ghost use Rattle.line.specs.Marks.{line-kind};
-ghost use Rattle.line.specs.Objections.{ByGrounds, SplitAtSpaces};
-ghost use Rattle.line.specs.Reading.{Checks, is-plain, words-in, words-with, line-words, takes, reading, told};
+ghost use Rattle.grammar.specs.declared.grounds.Ground.the-variants.{LineTooLong, ByteOutside, NoMark, NotAName, WordCount};
+ghost use Rattle.grammar.specs.Marks.{line-kind};
+ghost use Rattle.grammar.specs.Objections.{ByGrounds, SplitAtSpaces};
+ghost use Rattle.grammar.specs.Reading.{is-plain, line-words, takes, reading};
+ghost use Rattle.line.specs.Records.{Checks, words-in, told};
 
 fn within_length(line: &[u8]) -> Result<(), LineFault>
     ensures { λ r. ⌜ Checks (now (line .entry)) LineTooLong (λ _. length (now (line .entry)) ≤ 240) r ⌝ }
@@ -123,7 +124,7 @@ fn right_count(kind: Kind, words: &Places) -> Result<(), LineFault>
 /// Reads one line, given without the byte that ends it. An empty line is accepted and is no record.
 pub fn read_line(line: &[u8]) -> Result<Option<Record>, LineFault>
     ensures value { λ r. ⌜ told (now (line .entry)) r ≡ reading (now (line .entry)) ⌝ }
-    ensures grounds { λ r. ⌜ ByGrounds (now (line .entry)) r ⌝ }
+    ensures grounds { λ r. ⌜ ByGrounds (now (line .entry)) (told (now (line .entry)) r) ⌝ }
     ensures words { λ _. ⌜ SplitAtSpaces (now (line .entry)) (words-of (now (line .entry))) ⌝ }
 {
     within_length(line)?;

@@ -1,5 +1,5 @@
 //! What a line is read into.
-use crate::marks::Kind;
+use grammar::marks::Kind;
 use crate::places::Places;
 
 /// One line: what it is, and where its words stand in it.

@@ -1,6 +1,6 @@
 //! A text, cut into its lines.
-use crate::grounds::Ground;
-use crate::grounds::LineFault;
+use grammar::grounds::Ground;
+use grammar::grounds::LineFault;
 use crate::words::until;
 ghost use Prim.Native.Nat.{_+_, _-_, _≤_, _<_};
 ghost use mathlib.Core.Path.{_≡_};
@@ -9,9 +9,9 @@ ghost use lib.ListN.{length};
 ghost use denote.Ref.{now};
 ghost use Rattle.std.specs.Options.{Cases as BySome};
 ghost use Rattle.std.specs.Results.{Cases};
-ghost use Rattle.line.specs.declared.grounds.Ground.the-variants.{TextTooLong};
-ghost use Rattle.line.specs.Refusals.{fault};
-ghost use Rattle.line.specs.Texts.{lines, lines-from, FirstLine, LineStep};
+ghost use Rattle.grammar.specs.declared.grounds.Ground.the-variants.{TextTooLong};
+ghost use Rattle.grammar.specs.Refusals.{fault};
+ghost use Rattle.grammar.specs.Texts.{lines, lines-from, CutIntoLines, FirstLine, LineStep};
 
 /// Refuses a text of more than 32,768 bytes.
 pub fn text_fits(text: &[u8]) -> Result<(), LineFault>
@@ -45,8 +45,10 @@ pub struct Lines<'a> {
 }
 
 impl<'a> Lines<'a> {
+    /// All lines of a text.
     pub fn of(text: &'a [u8]) -> Lines<'a>
-        ensures { λ r. ⌜ (now (r .text) ≡ now (text .entry)) × (r .from ≡ 0) ⌝ }
+        ensures left { λ r. ⌜ (now (r .text) ≡ now (text .entry)) × (r .from ≡ 0) ⌝ }
+        ensures cut { λ _. ⌜ CutIntoLines (now (text .entry)) (lines (now (text .entry))) ⌝ }
     {
         Lines { text, from: 0 }
     }

@@ -1,6 +1,6 @@
 //! The words of a line, taken one after the other.
-use crate::grounds::Ground;
-use crate::grounds::LineFault;
+use grammar::grounds::Ground;
+use grammar::grounds::LineFault;
 ghost use Prim.Native.Nat.{ℕ, _+_, _-_, _≤_, _<_};
 ghost use mathlib.Core.Path.{_≡_};
 ghost use mathlib.Core.Bool.{true, false};
@@ -11,7 +11,7 @@ ghost use Rattle.std.specs.Options.{Cases as BySome};
 ghost use Rattle.std.specs.Results.{Cases};
 ghost use denote.Ref.{now};
 ghost use Rattle.line.specs.Taking.{FirstWord, NextWord, WordStep};
-ghost use Rattle.line.specs.Words.{is-letter, is-name-byte, all-name-bytes, is-name, word, words-from, words-of};
+ghost use Rattle.grammar.specs.Words.{is-letter, is-name-byte, all-name-bytes, is-name, word, words-from, words-of};
 
 fn is_letter(b: u8) -> bool
     ensures { λ r. ⌜ r ≡ is-letter b ⌝ }

@@ -1,7 +1,7 @@
 use Prim.Native.Nat.{_+_}
 use mathlib.Core.Path.{_≡_}
 use lib.ListN.{drop}
-use Rattle.line.specs.Reading.{odd-byte}
+use Rattle.grammar.specs.Reading.{odd-byte}
 use Rattle.line.proofs.reading.plain_bytes.Given as given
 
 abbrev pub Inv-loop-i : given.InvT-loop-i

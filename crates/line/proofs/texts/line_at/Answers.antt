@@ -2,7 +2,7 @@ use mathlib.Core.Path.{_≡_, refl, ap, subst}
 use native.Mathlib.Omega.{arith}
 use lib.ListN.{length, length-drop}
 use Rattle.std.proofs.shelf.Lists.{take-rest, drop-all}
-use Rattle.line.specs.Texts.{lines}
+use Rattle.grammar.specs.Texts.{lines}
 use Rattle.line.proofs.Splits.{Front, lines-next}
 use Rattle.line.proofs.texts.line_at.Needs as need
 

@@ -1,6 +1,6 @@
 use mathlib.Core.Path.{_≡_}
 use lib.ListN.{drop}
-use Rattle.line.specs.Words.{all-name-bytes}
+use Rattle.grammar.specs.Words.{all-name-bytes}
 use Rattle.line.proofs.words.all_name_bytes.Given as given
 
 abbrev pub Inv-loop-b : given.InvT-loop-b

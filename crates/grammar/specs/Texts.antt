@@ -8,7 +8,7 @@ use lib.ListN.{length, drop}
 use Rattle.std.specs.Holes.{between}
 use Rattle.std.specs.Options.{Cases as BySome}
 use Rattle.std.specs.declared.option.Option.{Option}
-use Rattle.line.specs.Pieces.{cut}
+use Rattle.grammar.specs.Pieces.{cut}
 
 -- byte 10 ends a line; the last line may lack it, and a last one opens no further line
 abbrev pub lines : List ℕ → List (List ℕ)

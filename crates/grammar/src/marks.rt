@@ -1,6 +1,6 @@
 //! The marks by which a line says what it is.
 ghost use mathlib.Core.Path.{_≡_};
-ghost use Rattle.line.specs.Marks.{kind-of};
+ghost use Rattle.grammar.specs.Marks.{kind-of};
 
 /// What a line is. Its value is the character of its mark.
 #[derive(Clone, Copy, PartialEq, Eq, Debug)]

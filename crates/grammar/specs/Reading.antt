@@ -1,28 +1,22 @@
 -- What reading a line answers. Assumes nothing.
 use Prim.Native.Nat.{ℕ, _+_}
-use mathlib.Core.Path.{_≡_}
-use mathlib.Core.Bool.{Bool, true, false, cond, not, _&&_}
-use mathlib.Core.List.{List, [], _∷_, map}
+use mathlib.Core.Bool.{Bool, true, false, cond, _&&_}
+use mathlib.Core.List.{List, [], _∷_}
 use lib.Dec.{eqb, leb, ltb}
-use lib.ListN.{length, take}
-use Rattle.std.specs.Holes.{between}
+use lib.ListN.{length}
 use Rattle.std.specs.Options.{mapped, isSome}
-use Rattle.std.specs.Results.{Cases}
 use Rattle.std.specs.declared.option.Option.{Option}
 use Rattle.std.specs.declared.option.Option.the-variants.{Some, None}
 use Rattle.std.specs.declared.result.Result.{Result}
 use Rattle.std.specs.declared.result.Result.the-variants.{Ok, Err}
-use Rattle.line.specs.declared.grounds.Ground.{Ground}
-use Rattle.line.specs.declared.grounds.Ground.the-variants.{TextTooLong, LineTooLong, ByteOutside, NoMark, NotAName, WordCount, NameTaken, NotFound, ModelFull, SourceFull, NoSuchNumber, NoSuchGoal, OfferNotOpen, PageTooShort, AreaTooShort, GoalNotMet}
-use Rattle.line.specs.declared.grounds.LineFault.{LineFault}
-use Rattle.line.specs.declared.marks.Kind.{Kind}
-use Rattle.line.specs.declared.marks.Kind.the-variants.{Equation, Fault, Offer, Comment}
-use Rattle.line.specs.declared.places.Place.{Place}
-use Rattle.line.specs.declared.places.Places.{Places}
-use Rattle.line.specs.declared.records.Record.{Record}
-use Rattle.line.specs.Marks.{line-kind}
-use Rattle.line.specs.Refusals.{checking-order, first-fault, fault}
-use Rattle.line.specs.Words.{Word, word, words-of, odd-name}
+use Rattle.grammar.specs.declared.grounds.Ground.{Ground}
+use Rattle.grammar.specs.declared.grounds.Ground.the-variants.{TextTooLong, LineTooLong, ByteOutside, NoMark, NotAName, WordCount, NameTaken, NotFound, ModelFull, SourceFull, NoSuchNumber, NoSuchGoal, OfferNotOpen, PageTooShort, AreaTooShort, GoalNotMet}
+use Rattle.grammar.specs.declared.grounds.LineFault.{LineFault}
+use Rattle.grammar.specs.declared.marks.Kind.{Kind}
+use Rattle.grammar.specs.declared.marks.Kind.the-variants.{Equation, Fault, Offer, Comment}
+use Rattle.grammar.specs.Marks.{line-kind}
+use Rattle.grammar.specs.Refusals.{checking-order, first-fault}
+use Rattle.grammar.specs.Words.{Word, words-of, odd-name}
 
 abbrev pub is-plain : ℕ → Bool
 is-plain b = leb 32 b && leb b 126
@@ -96,21 +90,3 @@ answer None x = Ok x
 -- the first ground in the checking order that stands, or else what the line enters: nothing, where it is empty
 unfoldable pub reading : List ℕ → Result (Option Entry) LineFault
 reading line = answer (first-fault (stands line) checking-order) (entry line)
-
--- what a record means of the line that it was read from
-abbrev pub word-in : List ℕ → Place → Word
-word-in line p = word (p .start + 1) (between (p .start) (p .end) line)
-
-abbrev pub words-in : List ℕ → Places → List Word
-words-in line ps = map (word-in line) (take (ps .len) (ps .all))
-
-abbrev pub entered : List ℕ → Record → Entry
-entered line r = record { kind = r .kind; words = words-in line (r .words) }
-
-abbrev pub told : List ℕ → Result (Option Record) LineFault → Result (Option Entry) LineFault
-told line (Ok o) = Ok (mapped (entered line) o)
-told line (Err f) = Err f
-
--- the answer of a call that checks one ground and gives what P says of it
-abbrev pub Checks : {T : Type 0} → List ℕ → Ground → (T → Type 0) → Result T LineFault → Type 0
-Checks line g P r = Cases r (λ x. (stands line g ≡ None) × P x) (λ f. (f ≡ fault g (f .byte)) × (stands line g ≡ Some (f .byte)))

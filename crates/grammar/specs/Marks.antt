@@ -6,8 +6,8 @@ use lib.Dec.{eqb}
 use lib.ListN.{getD}
 use Rattle.std.specs.declared.option.Option.{Option}
 use Rattle.std.specs.declared.option.Option.the-variants.{Some, None}
-use Rattle.line.specs.declared.marks.Kind.{Kind}
-use Rattle.line.specs.declared.marks.Kind.the-variants.{Equation, Fault, Offer, Comment}
+use Rattle.grammar.specs.declared.marks.Kind.{Kind}
+use Rattle.grammar.specs.declared.marks.Kind.the-variants.{Equation, Fault, Offer, Comment}
 
 -- E, F, S and C
 abbrev pub mark : Kind → ℕ

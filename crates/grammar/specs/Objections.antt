@@ -10,16 +10,15 @@ use Rattle.std.specs.Results.{Cases}
 use Rattle.std.specs.declared.option.Option.{Option}
 use Rattle.std.specs.declared.result.Result.{Result}
 use Rattle.std.specs.shelf.Lists.{All}
-use Rattle.line.specs.declared.grounds.Ground.{Ground}
-use Rattle.line.specs.declared.grounds.Ground.the-variants.{TextTooLong, LineTooLong, ByteOutside, NoMark, NotAName, WordCount, NameTaken, NotFound, ModelFull, SourceFull, NoSuchNumber, NoSuchGoal, OfferNotOpen, PageTooShort, AreaTooShort, GoalNotMet}
-use Rattle.line.specs.declared.grounds.LineFault.{LineFault}
-use Rattle.line.specs.declared.marks.Kind.{Kind}
-use Rattle.line.specs.declared.marks.Kind.the-variants.{Equation, Fault, Offer, Comment}
-use Rattle.line.specs.declared.records.Record.{Record}
-use Rattle.line.specs.Marks.{mark}
-use Rattle.line.specs.Reading.{words-in}
-use Rattle.line.specs.Refusals.{checking-order, FirstInOrder}
-use Rattle.line.specs.Words.{Word, words-of}
+use Rattle.grammar.specs.declared.grounds.Ground.{Ground}
+use Rattle.grammar.specs.declared.grounds.Ground.the-variants.{TextTooLong, LineTooLong, ByteOutside, NoMark, NotAName, WordCount, NameTaken, NotFound, ModelFull, SourceFull, NoSuchNumber, NoSuchGoal, OfferNotOpen, PageTooShort, AreaTooShort, GoalNotMet}
+use Rattle.grammar.specs.declared.grounds.LineFault.{LineFault}
+use Rattle.grammar.specs.declared.marks.Kind.{Kind}
+use Rattle.grammar.specs.declared.marks.Kind.the-variants.{Equation, Fault, Offer, Comment}
+use Rattle.grammar.specs.Marks.{mark}
+use Rattle.grammar.specs.Reading.{Entry}
+use Rattle.grammar.specs.Refusals.{checking-order, FirstInOrder}
+use Rattle.grammar.specs.Words.{Word, words-of}
 
 abbrev pub Letter : ℕ → Type 0
 Letter b = ((97 ≤ b) × (b ≤ 122)) ⊎ ((65 ≤ b) × (b ≤ 90))
@@ -93,13 +92,13 @@ pub record SplitAtSpaces (line : List ℕ) (ws : List Word) : Type 0 where
   pub none : (ws ≡ [] → drop 2 line ≡ []) × (drop 2 line ≡ [] → ws ≡ [])
   pub places : All (λ w. (3 ≤ w .start) × (between (w .start - 1) (w .start - 1 + length (w .bytes)) line ≡ w .bytes)) ws
 
--- An empty line is no record. Any other has the kind of its mark; its words are those after the mark, all of them names, and
--- a comment has none.
-abbrev pub Enters : List ℕ → Option Record → Type 0
+-- An empty line enters nothing. Any other has the kind of its mark; its words are those after the mark, all of them names,
+-- and a comment has none.
+abbrev pub Enters : List ℕ → Option Entry → Type 0
 Enters line o =
     BySome o (line ≡ [])
-    (λ r. Marked line (r .kind) × (Worded line → words-in line (r .words) ≡ words-of line) × (Marked line Comment → words-in line (r .words) ≡ []) × All (λ w. Name (w .bytes)) (words-in line (r .words)))
+    (λ e. Marked line (e .kind) × (Worded line → e .words ≡ words-of line) × (Marked line Comment → e .words ≡ []) × All (λ w. Name (w .bytes)) (e .words))
 
 -- A line is accepted where no ground stands, and refused on the first that stands.
-abbrev pub ByGrounds : List ℕ → Result (Option Record) LineFault → Type 0
+abbrev pub ByGrounds : List ℕ → Result (Option Entry) LineFault → Type 0
 ByGrounds line r = Cases r (λ o. ((g : Ground) (k : ℕ) → Stands line g k → ⊥) × Enters line o) (FirstInOrder (Stands line) checking-order)

@@ -15,18 +15,17 @@ use Rattle.std.specs.declared.result.Result.the-variants.{Ok, Err}
 use Rattle.std.specs.shelf.Lists.{All}
 use Rattle.std.proofs.shelf.Lists.{nil-from-length}
 use Rattle.std.proofs.shelf.Ways.{tells, eqb-tells}
-use Rattle.line.specs.declared.grounds.Ground.{Ground}
-use Rattle.line.specs.declared.grounds.Ground.the-variants.{TextTooLong, LineTooLong, ByteOutside, NoMark, NotAName, WordCount, NameTaken, NotFound, ModelFull, SourceFull, NoSuchNumber, NoSuchGoal, OfferNotOpen, PageTooShort, AreaTooShort, GoalNotMet}
-use Rattle.line.specs.declared.grounds.LineFault.{LineFault}
-use Rattle.line.specs.declared.marks.Kind.{Kind}
-use Rattle.line.specs.declared.marks.Kind.the-variants.{Equation, Fault, Offer, Comment}
-use Rattle.line.specs.declared.records.Record.{Record}
-use Rattle.line.specs.Marks.{line-kind}
-use Rattle.line.specs.Objections.{Name, Marked, Worded, Unmarked, Stands, Enters, ByGrounds}
-use Rattle.line.specs.Reading.{Entry, stands, line-words, words-by, words-in, entry, entered, answer, told, reading}
-use Rattle.line.specs.Refusals.{checking-order, else-after, first-fault, FirstInOrder}
-use Rattle.line.specs.Words.{Word, words-of, is-name, odd-name}
-use Rattle.line.proofs.Standing.{Leftmost, each-ground, name-decides, kind-from-mark, mark-from-kind, unmarked}
+use Rattle.grammar.specs.declared.grounds.Ground.{Ground}
+use Rattle.grammar.specs.declared.grounds.Ground.the-variants.{TextTooLong, LineTooLong, ByteOutside, NoMark, NotAName, WordCount, NameTaken, NotFound, ModelFull, SourceFull, NoSuchNumber, NoSuchGoal, OfferNotOpen, PageTooShort, AreaTooShort, GoalNotMet}
+use Rattle.grammar.specs.declared.grounds.LineFault.{LineFault}
+use Rattle.grammar.specs.declared.marks.Kind.{Kind}
+use Rattle.grammar.specs.declared.marks.Kind.the-variants.{Equation, Fault, Offer, Comment}
+use Rattle.grammar.specs.Marks.{line-kind}
+use Rattle.grammar.specs.Objections.{Name, Marked, Worded, Unmarked, Stands, Enters, ByGrounds}
+use Rattle.grammar.specs.Reading.{stands, line-words, entry, answer, reading}
+use Rattle.grammar.specs.Refusals.{checking-order, else-after, first-fault, FirstInOrder}
+use Rattle.grammar.specs.Words.{Word, words-of, is-name, odd-name}
+use Rattle.grammar.proofs.Standing.{Leftmost, each-ground, name-decides, kind-from-mark, mark-from-kind, unmarked}
 
 -- ---- any order, any grounds
 
@@ -90,42 +89,20 @@ empty-line : (line : List ℕ) → line-kind line ≡ None → ((k : ℕ) → St
 empty-line [] e free = refl
 empty-line (b ∷ bs) e free = absurd (free 0 ((omega arith, unmarked (b ∷ bs) e), refl))
 
-none-mapped : (f : Kind → Entry) (m : Option Kind) → None ≡ mapped f m → m ≡ None
-none-mapped f None e = refl
-none-mapped f (Some kind) e = absurd (let y : _≡_ {A = ℕ} 0 1 = cc in omega arith)
-
-some-mapped : (f : Kind → Entry) (m : Option Kind) (x : Entry) → Some x ≡ mapped f m → (kind : Kind) × (m ≡ Some kind) × (x ≡ f kind)
-some-mapped f None x e = absurd (let y : _≡_ {A = ℕ} 0 1 = cc in omega arith)
-some-mapped f (Some kind) x e = (kind, refl, cc)
-
-enters : (line : List ℕ) (o : Option Record) → mapped (entered line) o ≡ entry line → All (λ g. stands line g ≡ None) checking-order → Enters line o
-enters line None e h =
-    let f : Kind → Entry = λ kind. record { kind = kind; words = line-words line } in
-    empty-line line (none-mapped f (line-kind line) e) (free-of (stands line NoMark) (Stands line NoMark) (every-ground (λ g. stands line g ≡ None) h NoMark) (each-ground line NoMark))
-enters line (Some r) e h =
-    let f : Kind → Entry = λ kind. record { kind = kind; words = line-words line } in
-    let s = some-mapped f (line-kind line) (entered line r) e in
-    let same : r .kind ≡ s .0 = ap (λ x. x .kind) (s .2) in
-    let words : words-in line (r .words) ≡ line-words line = ap (λ x. x .words) (s .2) in (
-      mark-from-kind line (r .kind) (s .1 ∙ ap Some (sym same)),
-      λ w. words ∙ worded-words line w,
-      λ m. words ∙ comment-words line m,
-      subst (All (λ w. Name (w .bytes))) (sym words) (all-names (line-words line) (every-ground (λ g. stands line g ≡ None) h NotAName)),
-    )
-
-reading-is : (line : List ℕ) (o : Option LineFault) → first-fault (stands line) checking-order ≡ o → reading line ≡ answer o (entry line)
-unfolding reading
-reading-is line o e = ap (λ x. answer x (entry line)) e
+enters : (line : List ℕ) (m : Option Kind) → line-kind line ≡ m → All (λ g. stands line g ≡ None) checking-order → Enters line (mapped (λ kind. record { kind = kind; words = line-words line }) m)
+enters line None k h = empty-line line k (free-of (stands line NoMark) (Stands line NoMark) (every-ground (λ g. stands line g ≡ None) h NoMark) (each-ground line NoMark))
+enters line (Some kind) k h = (
+  mark-from-kind line kind k,
+  worded-words line,
+  comment-words line,
+  all-names (line-words line) (every-ground (λ g. stands line g ≡ None) h NotAName),
+)
 
 -- what reading says of every line, in words
-pub by-grounds : (line : List ℕ) (r : Result (Option Record) LineFault) → told line r ≡ reading line → ByGrounds line r
-by-grounds line r e = by (first-fault (stands line) checking-order) refl (first-law (stands line) (Stands line) (each-ground line) checking-order) r e
+pub by-grounds : (line : List ℕ) → ByGrounds line (reading line)
+unfolding reading
+by-grounds line = by (first-fault (stands line) checking-order) (first-law (stands line) (Stands line) (each-ground line) checking-order)
   where
-    by : (o : Option LineFault) → first-fault (stands line) checking-order ≡ o → BySome o (All (λ g. stands line g ≡ None) checking-order) (FirstInOrder (Stands line) checking-order) →
-        (r : Result (Option Record) LineFault) → told line r ≡ reading line → ByGrounds line r
-    by None f h (Ok o) e =
-        let same : mapped (entered line) o ≡ entry line = let z = e ∙ reading-is line None f in cc in
-        (λ g. free-of (stands line g) (Stands line g) (every-ground (λ x. stands line x ≡ None) h g) (each-ground line g), enters line o same h)
-    by None f h (Err x) e = absurd (let z = e ∙ reading-is line None f in let y : _≡_ {A = ℕ} 0 1 = cc in omega arith)
-    by (Some x) f h (Ok o) e = absurd (let z = e ∙ reading-is line (Some x) f in let y : _≡_ {A = ℕ} 0 1 = cc in omega arith)
-    by (Some x) f h (Err v) e = let same : x ≡ v = (let z = e ∙ reading-is line (Some x) f in cc) in subst (FirstInOrder (Stands line) checking-order) same h
+    by : (o : Option LineFault) → BySome o (All (λ g. stands line g ≡ None) checking-order) (FirstInOrder (Stands line) checking-order) → ByGrounds line (answer o (entry line))
+    by None h = (λ g. free-of (stands line g) (Stands line g) (every-ground (λ x. stands line x ≡ None) h g) (each-ground line g), enters line (line-kind line) refl h)
+    by (Some x) h = h

@@ -1,6 +1,6 @@
 //! The grounds on which a call is refused, and what a refused line or text is told.
 ghost use mathlib.Core.Path.{_≡_};
-ghost use Rattle.line.specs.Refusals.{number};
+ghost use Rattle.grammar.specs.Refusals.{number};
 
 /// Every ground for a refusal. Its value is the number that a user is shown.
 #[derive(Clone, Copy, PartialEq, Eq, Debug)]

@@ -12,10 +12,10 @@ use Rattle.std.specs.Holes.{between}
 use Rattle.std.specs.shelf.Lists.{All}
 use Rattle.std.proofs.shelf.Lists.{take-at, drop-at, drop-all, length-push}
 use Rattle.std.proofs.shelf.Ways.{tells, eqb-tells, leb-tells}
-use Rattle.line.specs.Objections.{spaced, SplitAtSpaces}
-use Rattle.line.specs.Pieces.{glue, cut}
-use Rattle.line.specs.Texts.{lines, ended, CutIntoLines}
-use Rattle.line.specs.Words.{Word, word, placed, words-from, words-of}
+use Rattle.grammar.specs.Objections.{spaced, SplitAtSpaces}
+use Rattle.grammar.specs.Pieces.{glue, cut}
+use Rattle.grammar.specs.Texts.{lines, ended, CutIntoLines}
+use Rattle.grammar.specs.Words.{Word, word, placed, words-from, words-of}
 
 -- no piece holds the separator
 abbrev Apart : ℕ → List (List ℕ) → Type 0

@@ -6,7 +6,7 @@ use lib.Dec.{eqb, leb, ltb}
 use lib.ListN.{length, drop}
 use Rattle.std.specs.declared.option.Option.{Option}
 use Rattle.std.specs.declared.option.Option.the-variants.{Some, None}
-use Rattle.line.specs.Pieces.{cut}
+use Rattle.grammar.specs.Pieces.{cut}
 
 -- a word, with the number of its first byte in the line, from 1
 pub record Word : Type 0 where

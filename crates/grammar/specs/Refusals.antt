@@ -5,9 +5,9 @@ use mathlib.Core.List.{List, [], _∷_, _++_}
 use Rattle.std.specs.declared.option.Option.{Option}
 use Rattle.std.specs.declared.option.Option.the-variants.{Some, None}
 use Rattle.std.specs.shelf.Lists.{All}
-use Rattle.line.specs.declared.grounds.Ground.{Ground}
-use Rattle.line.specs.declared.grounds.Ground.the-variants.{TextTooLong, LineTooLong, ByteOutside, NoMark, NotAName, WordCount, NameTaken, NotFound, ModelFull, SourceFull, NoSuchNumber, NoSuchGoal, OfferNotOpen, PageTooShort, AreaTooShort, GoalNotMet}
-use Rattle.line.specs.declared.grounds.LineFault.{LineFault}
+use Rattle.grammar.specs.declared.grounds.Ground.{Ground}
+use Rattle.grammar.specs.declared.grounds.Ground.the-variants.{TextTooLong, LineTooLong, ByteOutside, NoMark, NotAName, WordCount, NameTaken, NotFound, ModelFull, SourceFull, NoSuchNumber, NoSuchGoal, OfferNotOpen, PageTooShort, AreaTooShort, GoalNotMet}
+use Rattle.grammar.specs.declared.grounds.LineFault.{LineFault}
 
 -- the number that a user is shown
 abbrev pub number : Ground → ℕ

@@ -13,15 +13,15 @@ use Rattle.std.specs.declared.option.Option.{Option}
 use Rattle.std.specs.declared.option.Option.the-variants.{Some, None}
 use Rattle.std.specs.shelf.Lists.{All}
 use Rattle.std.proofs.shelf.Ways.{tells, eqb-tells, leb-tells, decides-eqb, decides-and, decides-or, decides-by-and, decides-like}
-use Rattle.line.specs.declared.grounds.Ground.{Ground}
-use Rattle.line.specs.declared.grounds.Ground.the-variants.{TextTooLong, LineTooLong, ByteOutside, NoMark, NotAName, WordCount, NameTaken, NotFound, ModelFull, SourceFull, NoSuchNumber, NoSuchGoal, OfferNotOpen, PageTooShort, AreaTooShort, GoalNotMet}
-use Rattle.line.specs.declared.marks.Kind.{Kind}
-use Rattle.line.specs.declared.marks.Kind.the-variants.{Equation, Fault, Offer, Comment}
-use Rattle.line.specs.Marks.{mark, kind-of, line-kind}
-use Rattle.line.specs.Objections.{Letter, NameByte, Name, Marked, Worded, Among, Unmarked, Miscounted, OddName, Stands}
-use Rattle.line.specs.Pieces.{cut}
-use Rattle.line.specs.Reading.{is-plain, odd-byte, unless, stands, takes, takes-by, words-with, words-by, line-words}
-use Rattle.line.specs.Words.{Word, word, placed, words-from, words-of, is-letter, is-name-byte, all-name-bytes, is-name, odd-name}
+use Rattle.grammar.specs.declared.grounds.Ground.{Ground}
+use Rattle.grammar.specs.declared.grounds.Ground.the-variants.{TextTooLong, LineTooLong, ByteOutside, NoMark, NotAName, WordCount, NameTaken, NotFound, ModelFull, SourceFull, NoSuchNumber, NoSuchGoal, OfferNotOpen, PageTooShort, AreaTooShort, GoalNotMet}
+use Rattle.grammar.specs.declared.marks.Kind.{Kind}
+use Rattle.grammar.specs.declared.marks.Kind.the-variants.{Equation, Fault, Offer, Comment}
+use Rattle.grammar.specs.Marks.{mark, kind-of, line-kind}
+use Rattle.grammar.specs.Objections.{Letter, NameByte, Name, Marked, Worded, Among, Unmarked, Miscounted, OddName, Stands}
+use Rattle.grammar.specs.Pieces.{cut}
+use Rattle.grammar.specs.Reading.{is-plain, odd-byte, unless, stands, takes, takes-by, words-with, words-by, line-words}
+use Rattle.grammar.specs.Words.{Word, word, placed, words-from, words-of, is-letter, is-name-byte, all-name-bytes, is-name, odd-name}
 
 -- o is the leftmost number of which P holds, if there is one
 abbrev pub Leftmost : Option ℕ → (ℕ → Type 0) → Type 0

@@ -1,0 +1,6 @@
+use mathlib.Core.Path.{refl}
+use Rattle.grammar.proofs.Cuts.{text-cut}
+use Rattle.line.proofs.texts.Lines.of.Needs as need
+
+pub returns : need.returns
+returns c = record { left = (refl, refl); cut = text-cut (c .args .text .now) }
