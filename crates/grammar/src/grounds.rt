@@ -54,3 +54,11 @@ pub struct LineFault {
     pub ground: Ground,
     pub byte: usize,
 }
+
+/// What a user is shown of a refused call: the ground, and the line and the byte at fault, both counted from 1, or 0.
+#[derive(Clone, Copy, PartialEq, Eq, Debug)]
+pub struct Refusal {
+    pub ground: Ground,
+    pub line: u32,
+    pub byte: u32,
+}

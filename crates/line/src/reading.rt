@@ -11,6 +11,7 @@ ghost use mathlib.Core.Path.{_≡_};
 ghost use mathlib.Core.Bool.{true, false};
 ghost use Rattle.std.specs.Options.{isSome};
 ghost use Rattle.std.specs.Results.{Cases};
+ghost use Rattle.std.specs.Vec.{refused};
 ghost use Rattle.grammar.specs.Refusals.{fault};
 ghost use Rattle.grammar.specs.Words.{words-of, odd-name};
 ghost use lib.ListN.{length};
@@ -125,6 +126,7 @@ fn right_count(kind: Kind, words: &Places) -> Result<(), LineFault>
 pub fn read_line(line: &[u8]) -> Result<Option<Record>, LineFault>
     ensures value { λ r. ⌜ told (now (line .entry)) r ≡ reading (now (line .entry)) ⌝ }
     ensures grounds { λ r. ⌜ ByGrounds (now (line .entry)) (told (now (line .entry)) r) ⌝ }
+    ensures bound { λ r. ⌜ refused (told (now (line .entry)) r) (λ f. f .byte ≤ 241) ⌝ }
     ensures words { λ _. ⌜ SplitAtSpaces (now (line .entry)) (words-of (now (line .entry))) ⌝ }
 {
     within_length(line)?;
