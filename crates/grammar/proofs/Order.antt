@@ -22,7 +22,7 @@ use Rattle.grammar.specs.declared.marks.Kind.{Kind}
 use Rattle.grammar.specs.declared.marks.Kind.the-variants.{Equation, Fault, Offer, Comment}
 use Rattle.grammar.specs.Marks.{line-kind}
 use Rattle.grammar.specs.Objections.{Name, Marked, Worded, Unmarked, Stands, Enters, ByGrounds}
-use Rattle.grammar.specs.Reading.{stands, line-words, entry, answer, reading}
+use Rattle.grammar.specs.Reading.{Entry, stands, line-words, entry, answer, reading}
 use Rattle.grammar.specs.Refusals.{checking-order, else-after, first-fault, FirstInOrder}
 use Rattle.grammar.specs.Words.{Word, words-of, is-name, odd-name}
 use Rattle.grammar.proofs.Standing.{Leftmost, each-ground, name-decides, kind-from-mark, mark-from-kind, unmarked}
@@ -106,3 +106,12 @@ by-grounds line = by (first-fault (stands line) checking-order) (first-law (stan
     by : (o : Option LineFault) → BySome o (All (λ g. stands line g ≡ None) checking-order) (FirstInOrder (Stands line) checking-order) → ByGrounds line (answer o (entry line))
     by None h = (λ g. free-of (stands line g) (Stands line g) (every-ground (λ x. stands line x ≡ None) h g) (each-ground line g), enters line (line-kind line) refl h)
     by (Some x) h = h
+
+-- a line that reads enters what its mark and words say
+pub read-entry : (line : List ℕ) (x : Option Entry) → reading line ≡ Ok x → x ≡ entry line
+unfolding reading
+read-entry line x e = by (first-fault (stands line) checking-order) e
+  where
+    by : (o : Option LineFault) → answer o (entry line) ≡ Ok x → x ≡ entry line
+    by None e = cc
+    by (Some f) e = absurd (let y : _≡_ {A = ℕ} 0 1 = cc in omega arith)

@@ -22,5 +22,5 @@ overwritten at bs area = take at area ++ (bs ++ drop (at + length bs) area)
 abbrev pub Fills : List ℕ → List ℕ → Result ℕ Refusal → List ℕ → Type 0
 Fills bs before r after =
     Cases r
-    (λ n. (n ≡ length bs) × (after ≡ bs ++ drop (length bs) before))
+    (λ n. (n ≡ length bs) × (length bs ≤ length before) × (after ≡ bs ++ drop (length bs) before))
     (λ e. (e ≡ record { ground = AreaTooShort; line = 0; byte = 0 }) × (length before < length bs) × (after ≡ before))

@@ -1,4 +1,4 @@
-use Prim.Native.Nat.{_<_}
+use Prim.Native.Nat.{_<_, _≤_}
 use mathlib.Core.Path.{_≡_, refl, ap, subst, _∙_}
 use mathlib.Core.List.{[], _∷_, _++_}
 use native.Mathlib.Omega.{arith}
@@ -39,4 +39,6 @@ returns c =
     let f6 = piece-on _ _ d _ _ _ _ f5 (c .put-at-6 .ensures .after) (c .put-at-6 .ensures .value) in
     let f7 = piece-on _ _ (10 ∷ []) _ _ _ _ f6 (c .put .ensures .after) (c .put .ensures .value) in
     let done = parted-stands a b d (c .args .area .now) (c .put .result) (c .put .last .area) f7 in
-    (done .0 ∙ ap length e, done .1 ∙ ap (λ l. l ++ drop (length l) (c .args .area .now)) e)
+    let long = parted-length a b d in
+    let fits : length (parted a b d) ≤ length (c .args .area .now) = omega (arith, long, c .if-area-number .left) in
+    (done .0 ∙ ap length e, subst (λ l. length l ≤ length (c .args .area .now)) e fits, done .1 ∙ ap (λ l. l ++ drop (length l) (c .args .area .now)) e)
