@@ -125,7 +125,7 @@ line-on text held from n a p after next more o b s first keeps on up reads noted
     let l = between (p .0) (p .1) text in
     let rest : lines-from text from ≡ l ∷ lines-from text next = here .first ∙ rw (on, here .starts) in
     let grown : (c : ℕ) → marked c (s .taken) + cond (eqb (mark-by (kind-by o)) c) 1 0 ≡ marked c (s .taken ++ l ∷ []) =
-            λ c. ap (λ m. marked c (s .taken) + cond (eqb (mark-by m) c) 1 0) (kind-read l o reads) ∙ sym (marked-one c (s .taken) l) in
+    λ c. ap (λ m. marked c (s .taken) + cond (eqb (mark-by m) c) 1 0) (kind-read l o reads) ∙ sym (marked-one c (s .taken) l) in
     record {
       same = keeps ∙ s .same;
       short = s .short;
@@ -152,17 +152,16 @@ all-lines text held from n a s none =
     (ap Ok is ∙ sym (fits text (s .short) ∙ ap (λ r. account-or r (lines text)) (all-read 1 (lines text) read)), (s .short, read, is))
 
 -- a line was refused
-pub bad-line : (text held : List ℕ) (from n : ℕ) (a : Account) (p : ℕ × ℕ) (i : ℕ) (f : LineFault) → Sofar text held from n a → FirstLine held from p → i ≡ n → reading (between (p .0) (p .1) text) ≡ Err f →
-    (Err (in-line (i + 1) f) ≡ account text) × Checked text (Err (in-line (i + 1) f))
-bad-line text held from n a p i f s first at reads =
+pub bad-line : (text held : List ℕ) (from n : ℕ) (a : Account) (p : ℕ × ℕ) (i : ℕ) (f : LineFault) (r : Refusal) →
+    Sofar text held from n a → FirstLine held from p → i ≡ n → reading (between (p .0) (p .1) text) ≡ Err f → r ≡ in-line (i + 1) f → (Err r ≡ account text) × Checked text (Err r)
+bad-line text held from n a p i f r s first at reads is =
     let here : FirstLine text from p = subst (λ h. FirstLine h from p) (s .same) first in
     let l = between (p .0) (p .1) text in
     let rest : lines-from text from ≡ l ∷ lines-from text (p .1 + 1) = here .first ∙ rw (here .starts) in
     let whole : lines text ≡ s .taken ++ l ∷ lines-from text (p .1 + 1) = s .whole ∙ ap (λ x. s .taken ++ x) rest in
     let bad = ap (first-refused 1) whole ∙ first-bad 1 (s .taken) l (lines-from text (p .1 + 1)) f (s .read) reads in
-    let line : 1 + length (s .taken) ≡ i + 1 = omega (arith, s .many) in
-    let line-back : i + 1 ≡ length (s .taken) + 1 = omega (arith, s .many) in
-    (
-      sym (fits text (s .short) ∙ ap (λ r. account-or r (lines text)) bad ∙ ap (λ k. Err (in-line k f)) line),
-      inr (s .short, record { before = s .taken; bad = l; after = lines-from text (p .1 + 1); fault = f; whole = whole; read = s .read; refused = reads; shown = ap (λ k. in-line k f) line-back }),
+    let line : i + 1 ≡ 1 + length (s .taken) = omega (arith, s .many) in
+    let line-back : i + 1 ≡ length (s .taken) + 1 = omega (arith, s .many) in (
+      ap Err (is ∙ ap (λ k. in-line k f) line) ∙ sym (fits text (s .short) ∙ ap (λ o. account-or o (lines text)) bad),
+      inr (s .short, record { before = s .taken; bad = l; after = lines-from text (p .1 + 1); fault = f; whole = whole; read = s .read; refused = reads; shown = is ∙ ap (λ k. in-line k f) line-back }),
     )

@@ -1,5 +1,6 @@
 //! A text is checked line by line, up to the first line that cannot be read.
 use crate::accounts::Account;
+use grammar::grounds::LineFault;
 use grammar::grounds::Refusal;
 use grammar::marks::Kind;
 use line::reading::read_line;
@@ -13,7 +14,7 @@ ghost use mathlib.Core.Bool.{cond};
 ghost use lib.Dec.{eqb};
 ghost use Rattle.grammar.specs.Marks.{mark};
 ghost use Rattle.grammar.specs.declared.marks.Kind.the-variants.{Equation, Fault, Offer, Comment};
-ghost use Rattle.account.specs.Checking.{account, Checked};
+ghost use Rattle.account.specs.Checking.{account, in-line, Checked};
 ghost use Rattle.account.specs.Noting.{kind-by, Below, Noted};
 
 impl Account {
@@ -46,6 +47,18 @@ impl Account {
     }
 }
 
+/// The fault of the line with an index, counted from 0, as it is shown.
+fn in_line(index: usize, fault: LineFault) -> Refusal
+    requires { ⌜ index < 32768 ⌝ ∗ ⌜ fault .byte ≤ 241 ⌝ }
+    ensures { λ r. ⌜ r ≡ in-line (index + 1) fault ⌝ }
+{
+    Refusal {
+        ground: fault.ground,
+        line: index as u32 + 1,
+        byte: fault.byte as u32,
+    }
+}
+
 /// Checks a text line by line: what it holds, or the first line that cannot be read.
 pub fn check_text(text: &[u8]) -> Result<Account, Refusal>
     ensures value { λ r. ⌜ r ≡ account (now (text .entry)) ⌝ }
@@ -62,13 +75,7 @@ pub fn check_text(text: &[u8]) -> Result<Account, Refusal>
     for (index, (start, end)) in Lines::of(text).enumerate() {
         match read_line(&text[start..end]) {
             Ok(line) => account.note(line),
-            Err(fault) => {
-                return Err(Refusal {
-                    ground: fault.ground,
-                    line: index as u32 + 1,
-                    byte: fault.byte as u32,
-                });
-            }
+            Err(fault) => return Err(in_line(index, fault)),
         }
     }
     Ok(account)

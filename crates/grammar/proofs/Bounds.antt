@@ -83,12 +83,12 @@ first-within : (line : List ℕ) → FaultWithin 241 (first-fault (stands line) 
 first-within line =
     ⊎-elim
     (λ t.
-        let h : length line ≤ 240 = t .1 in
-        else-within 241 LineTooLong (stands line LineTooLong) _ (unless-within 241 (leb (length line) 240))
-        (else-within 241 ByteOutside (odd-byte 1 line) _ (byte-within 241 1 line (omega arith))
-        (else-within 241 NoMark (stands line NoMark) _ (unless-within 241 _)
-        (else-within 241 NotAName (stands line NotAName) _ (names-within line (line-kind line) h)
-        (else-within 241 WordCount (stands line WordCount) None (unless-within 241 _) tt)))))
+    let h : length line ≤ 240 = t .1 in
+    else-within 241 LineTooLong (stands line LineTooLong) _ (unless-within 241 (leb (length line) 240))
+    (else-within 241 ByteOutside (odd-byte 1 line) _ (byte-within 241 1 line (omega arith))
+    (else-within 241 NoMark (stands line NoMark) _ (unless-within 241 _)
+    (else-within 241 NotAName (stands line NotAName) _ (names-within line (line-kind line) h)
+    (else-within 241 WordCount (stands line WordCount) None (unless-within 241 _) tt)))))
     (λ t. rw (t .0) (omega arith))
     (leb-tells (length line) 240)
 

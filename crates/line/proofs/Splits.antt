@@ -1,6 +1,6 @@
 -- One piece taken off the front of bytes that are cut at a separator. Assumes nothing.
 use Prim.Native.Nat.{ℕ, zero, suc, _+_, _-_, _≤_, _<_}
-use mathlib.Core.Path.{_≡_, refl, sym, ap, _∙_}
+use mathlib.Core.Path.{_≡_, refl, subst}
 use mathlib.Core.Bool.{Bool, true, false, cond}
 use mathlib.Core.List.{List, [], _∷_}
 use mathlib.Core.Logic.{_⊎_, inl, inr, ⊎-elim}
@@ -10,7 +10,7 @@ use lib.Dec.{eqb, leb}
 use lib.ListN.{length, getD, take, drop, length-drop}
 use lib.Seq.{drop-drop, length-take-le}
 use Rattle.std.specs.Holes.{between}
-use Rattle.std.proofs.shelf.Lists.{take-all, drop-all}
+use Rattle.std.proofs.shelf.Lists.{take-all, take-rest, drop-all}
 use Rattle.std.proofs.shelf.Ways.{tells, eqb-tells, leb-tells}
 use Rattle.grammar.specs.Pieces.{glue, cut}
 use Rattle.grammar.specs.Texts.{lines-from}
@@ -21,6 +21,10 @@ pub record Front (separator n : ℕ) (bs : List ℕ) : Type 0 where
   pub within : n ≤ length bs
   pub before : (k : ℕ) → k < n → getD bs k 0 ≡ separator → ⊥
   pub found : n < length bs → getD bs n 0 ≡ separator
+
+-- what lies from an index on, as `&bytes[from..]` gives it
+pub front-from : (s n from : ℕ) (bs : List ℕ) → Front s n (take (length bs - from) (drop from bs)) → Front s n (drop from bs)
+front-from s n from bs f = subst (Front s n) (take-rest bs from) f
 
 tail : (s n b : ℕ) (bs : List ℕ) → Front s (suc n) (b ∷ bs) → Front s n bs
 tail s n b bs f = record {

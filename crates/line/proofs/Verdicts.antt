@@ -1,12 +1,15 @@
 -- Reading a line, ground by ground. Assumes nothing.
-use Prim.Native.Nat.{ℕ}
-use mathlib.Core.Path.{_≡_, refl, sym, ap, _∙_}
+use Prim.Native.Nat.{ℕ, _≤_}
+use mathlib.Core.Path.{_≡_, sym, ap, subst, _∙_}
 use mathlib.Core.Bool.{Bool, true, false}
 use mathlib.Core.List.{List, [], _∷_}
 use lib.ListN.{length, take, length-map}
 use lib.Seq.{length-take-le}
 use native.Mathlib.Omega.{arith}
+use Rattle.std.specs.Vec.{refused}
+use Rattle.std.specs.declared.option.Option.{Option}
 use Rattle.std.specs.declared.option.Option.the-variants.{Some, None}
+use Rattle.std.specs.declared.result.Result.{Result}
 use Rattle.std.specs.declared.result.Result.the-variants.{Ok, Err}
 use Rattle.std.proofs.shelf.Lists.{nil-from-length}
 use Rattle.grammar.specs.declared.grounds.Ground.the-variants.{LineTooLong, ByteOutside, NoMark, NotAName, WordCount}
@@ -15,7 +18,12 @@ use Rattle.grammar.specs.declared.marks.Kind.{Kind}
 use Rattle.line.specs.declared.places.Places.{Places}
 use Rattle.grammar.specs.Marks.{line-kind}
 use Rattle.grammar.specs.Reading.{stands, takes, takes-by, unless, line-words, reading}
-use Rattle.line.specs.Records.{word-in, words-in}
+use Rattle.grammar.specs.Objections.{ByGrounds}
+use Rattle.grammar.proofs.Bounds.{byte-bound}
+use Rattle.grammar.proofs.Cuts.{words-split}
+use Rattle.grammar.proofs.Order.{by-grounds}
+use Rattle.line.specs.declared.records.Record.{Record}
+use Rattle.line.specs.Records.{word-in, words-in, told, ReadsLine}
 use Rattle.grammar.specs.Refusals.{fault}
 use Rattle.grammar.specs.Words.{Word}
 
@@ -57,3 +65,16 @@ pub count-stands : (line : List ℕ) (ps : Places) (kind : Kind) (b : Bool) → 
 count-stands line ps kind b words k right =
     let n : length (line-words line) ≡ ps .len = sym (ap length words) ∙ places-counted line ps in
     ap (λ m. unless (takes-by (line-kind line) m)) n ∙ ap (λ o. unless (takes-by o (ps .len))) k ∙ ap unless right
+
+-- the defined answer has every law
+pub reads-line : (line : List ℕ) (r : Result (Option Record) LineFault) → told line r ≡ reading line → ReadsLine line r
+reads-line line r v = record {
+  value = v;
+  grounds = subst (ByGrounds line) (sym v) (by-grounds line);
+  bound = subst (λ x. refused x (λ f. f .byte ≤ 241)) (sym v) (byte-bound line);
+  words = words-split line;
+}
+
+-- the fault of a check, passed on
+pub refused-line : (line : List ℕ) (r : Result (Option Record) LineFault) (f : LineFault) → ((x : LineFault) × (r ≡ Err x) × (x ≡ f)) → Err f ≡ reading line → ReadsLine line r
+refused-line line r f p v = reads-line line r (ap (told line) (p .1 ∙ ap Err (p .2)) ∙ v)

@@ -1,26 +1,24 @@
 //! A line is read ground by ground, in the order in which grounds are checked.
-use grammar::grounds::Ground;
-use grammar::grounds::LineFault;
-use grammar::marks::Kind;
 use crate::places::Places;
 use crate::records::Record;
 use crate::words::Words;
 use crate::words::WordsIterator;
+use grammar::grounds::Ground;
+use grammar::grounds::LineFault;
+use grammar::marks::Kind;
 ghost use Prim.Native.Nat.{_<_, _≤_};
 ghost use mathlib.Core.Path.{_≡_};
 ghost use mathlib.Core.Bool.{true, false};
 ghost use Rattle.std.specs.Options.{isSome};
 ghost use Rattle.std.specs.Results.{Cases};
-ghost use Rattle.std.specs.Vec.{refused};
 ghost use Rattle.grammar.specs.Refusals.{fault};
 ghost use Rattle.grammar.specs.Words.{words-of, odd-name};
 ghost use lib.ListN.{length};
 ghost use Rattle.std.specs.declared.option.Option.the-variants.{Some, None};
 ghost use Rattle.grammar.specs.declared.grounds.Ground.the-variants.{LineTooLong, ByteOutside, NoMark, NotAName, WordCount};
 ghost use Rattle.grammar.specs.Marks.{line-kind};
-ghost use Rattle.grammar.specs.Objections.{ByGrounds, SplitAtSpaces};
-ghost use Rattle.grammar.specs.Reading.{is-plain, line-words, takes, reading};
-ghost use Rattle.line.specs.Records.{Checks, words-in, told};
+ghost use Rattle.grammar.specs.Reading.{is-plain, line-words, takes};
+ghost use Rattle.line.specs.Records.{Checks, ChecksTwo, words-in, ReadsLine};
 
 fn within_length(line: &[u8]) -> Result<(), LineFault>
     ensures { λ r. ⌜ Checks (now (line .entry)) LineTooLong (λ _. length (now (line .entry)) ≤ 240) r ⌝ }
@@ -52,6 +50,14 @@ fn plain_bytes(line: &[u8]) -> Result<(), LineFault>
         }
     }
     Ok(())
+}
+
+/// The two grounds that every line is checked for, comments too.
+fn sound_bytes(line: &[u8]) -> Result<(), LineFault>
+    ensures { λ r. ⌜ ChecksTwo (now (line .entry)) LineTooLong ByteOutside (length (now (line .entry)) ≤ 240) r ⌝ }
+{
+    within_length(line)?;
+    plain_bytes(line)
 }
 
 fn mark_kind(line: &[u8]) -> Option<Kind>
@@ -124,13 +130,9 @@ fn right_count(kind: Kind, words: &Places) -> Result<(), LineFault>
 
 /// Reads one line, given without the byte that ends it. An empty line is accepted and is no record.
 pub fn read_line(line: &[u8]) -> Result<Option<Record>, LineFault>
-    ensures value { λ r. ⌜ told (now (line .entry)) r ≡ reading (now (line .entry)) ⌝ }
-    ensures grounds { λ r. ⌜ ByGrounds (now (line .entry)) (told (now (line .entry)) r) ⌝ }
-    ensures bound { λ r. ⌜ refused (told (now (line .entry)) r) (λ f. f .byte ≤ 241) ⌝ }
-    ensures words { λ _. ⌜ SplitAtSpaces (now (line .entry)) (words-of (now (line .entry))) ⌝ }
+    ensures { λ r. ⌜ ReadsLine (now (line .entry)) r ⌝ }
 {
-    within_length(line)?;
-    plain_bytes(line)?;
+    sound_bytes(line)?;
     if line.is_empty() {
         return Ok(None);
     }

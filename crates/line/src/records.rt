@@ -1,6 +1,6 @@
 //! What a line is read into.
-use grammar::marks::Kind;
 use crate::places::Places;
+use grammar::marks::Kind;
 
 /// One line: what it is, and where its words stand in it.
 #[derive(Clone, Copy)]

@@ -1,7 +1,7 @@
 //! A text, cut into its lines.
+use crate::words::until;
 use grammar::grounds::Ground;
 use grammar::grounds::LineFault;
-use crate::words::until;
 ghost use Prim.Native.Nat.{_+_, _-_, _≤_, _<_};
 ghost use mathlib.Core.Path.{_≡_};
 ghost use mathlib.Core.List.{[]};

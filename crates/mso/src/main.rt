@@ -20,7 +20,7 @@ fn print_account(rt: &LibcRuntime, account: Account) -> Result<(), AnyError> {
     } = account;
     println!(
         rt,
-        "{equations} equations, {faults} faults, {offers} offers, {comments} comments, {empty} empty lines"
+        "equations {equations}, faults {faults}, offers {offers}, comments {comments}, empty lines {empty}"
     )?;
     Ok(())
 }

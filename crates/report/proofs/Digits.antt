@@ -25,12 +25,12 @@ pub record Written (n rest start : ℕ) (places : List ℕ) : Type 0 where
   pub done : rest ≡ 0 → drop start places ≡ decimal n
 
 -- one digit more
-pub write-digit : (n rest start : ℕ) (places : List ℕ) → length places ≡ 10 → start ≤ 9 → rest < 2 ^ 32 →
-    decimal rest ++ drop (start + 1) places ≡ decimal n → Written n (rest / 10) start (set places start (48 + rest % 10))
-write-digit n rest start places long low small written =
-    let front = drop-set places start (48 + rest % 10) (omega arith) in
+pub write-digit : (n rest start digit : ℕ) (places : List ℕ) → digit ≡ 48 + rest % 10 → length places ≡ 10 → start ≤ 9 → rest < 2 ^ 32 →
+    decimal rest ++ drop (start + 1) places ≡ decimal n → Written n (rest / 10) start (set places start digit)
+write-digit n rest start digit places is long low small written =
+    let front = drop-set places start digit (omega arith) ∙ ap (λ d. d ∷ drop (start + 1) places) is in
     record {
-      long = length-set places start (48 + rest % 10) ∙ long;
+      long = length-set places start digit ∙ long;
       low = low;
       small = omega arith;
       more = λ some. rw front (sym (ap (λ l. l ++ drop (start + 1) places) (decimal-step rest (omega arith) (omega arith)) ∙ append-assoc (decimal (rest / 10)) ((48 + rest % 10) ∷ []) (drop (start + 1) places)) ∙ written);

@@ -3,9 +3,9 @@ use Prim.Native.Nat.{ℕ, _+_, _≤_}
 use mathlib.Core.Path.{_≡_, refl, sym, ap, _∙_}
 use mathlib.Core.List.{List, [], _∷_, _++_, append-assoc}
 use native.Mathlib.Omega.{arith}
-use lib.ListN.{length, take, drop, length-append}
+use lib.ListN.{length, take, drop, length-append, length-drop}
 use lib.Seq.{drop-drop}
-use Rattle.std.proofs.shelf.Lists.{take-at, drop-at}
+use Rattle.std.proofs.shelf.Lists.{take-at, drop-at, take-all}
 use Rattle.std.specs.Written.{decimal}
 use Rattle.grammar.specs.declared.grounds.Refusal.{Refusal}
 use Rattle.grammar.specs.Refusals.{number}
@@ -25,7 +25,7 @@ piece-on t xs bs i j area after f put on =
     let n : i + length bs ≡ length t + length bs = omega (arith, f .next) in
     let long = length-append t bs in
     let behind : drop (length t + length bs) (t ++ drop (length t) xs) ≡ drop (length (t ++ bs)) xs =
-            sym (drop-drop (length bs) (length t) (t ++ drop (length t) xs)) ∙ ap (drop (length bs)) (drop-at t (drop (length t) xs) (length t) refl) ∙ drop-drop (length bs) (length t) xs ∙ ap (λ k. drop k xs) (sym long) in
+    sym (drop-drop (length bs) (length t) (t ++ drop (length t) xs)) ∙ ap (drop (length bs)) (drop-at t (drop (length t) xs) (length t) refl) ∙ drop-drop (length bs) (length t) xs ∙ ap (λ k. drop k xs) (sym long) in
     record {
       stands = put ∙ rw (f .stands, n, f .next, take-at t (drop (length t) xs) (length t) refl, behind) (sym (append-assoc t bs (drop (length (t ++ bs)) xs)));
       next = on ∙ n ∙ sym long;
@@ -42,8 +42,10 @@ x-line-parts r a b c ea eb ec = rw (ea, eb, ec)
 pub parted-length : (a b c : List ℕ) → length (parted a b c) ≡ length a + length b + length c + 5
 parted-length a b c = simp length-append (omega arith)
 
-pub parted-stands : (a b c xs : List ℕ) (i : ℕ) (area : List ℕ) → Fronted ((((((([] ++ 88 ∷ 58 ∷ []) ++ a) ++ 32 ∷ []) ++ b) ++ 32 ∷ []) ++ c) ++ 10 ∷ []) xs i area →
-    (i ≡ length (parted a b c)) × (area ≡ parted a b c ++ drop (length (parted a b c)) xs)
-parted-stands a b c xs i area f =
-    let e : (((((([] ++ 88 ∷ 58 ∷ []) ++ a) ++ 32 ∷ []) ++ b) ++ 32 ∷ []) ++ c) ++ 10 ∷ [] ≡ parted a b c = simp append-assoc in
-    (f .next ∙ ap length e, f .stands ∙ ap (λ l. l ++ drop (length l) xs) e)
+-- the pieces t that were written are the line l
+pub line-stands : (t l xs : List ℕ) (i : ℕ) (area : List ℕ) → Fronted t xs i area → t ≡ l → (i ≡ length l) × (area ≡ l ++ drop (length l) xs)
+line-stands t l xs i area f e = (f .next ∙ ap length e, f .stands ∙ ap (λ k. k ++ drop (length k) xs) e)
+
+-- what lies from an index on, cut no shorter
+pub to-the-end : (xs : List ℕ) (i k : ℕ) → length xs ≤ i + k → take k (drop i xs) ≡ drop i xs
+to-the-end xs i k h = take-all k (drop i xs) (omega (arith, length-drop i xs))

@@ -17,13 +17,12 @@ loop-index-again c =
     let place : Place = record { start = c .in-Continue-start .start; end = c .in-Continue-start .end } in
     let len : c .put .last .self .len ≡ enumerate-count (c .next .last .self) = omega (arith, c .put .ensures .len, s .1, s .2) in
     let places : take (c .put .last .self .len) (c .put .last .self .all) ≡ take (enumerate-count (c .loop-index .index-iterator)) (c .loop-index .places .all) ++ place ∷ [] =
-            subst (λ n. take (c .put .last .self .len) (c .put .last .self .all) ≡ take n (c .loop-index .places .all) ++ place ∷ []) (s .1) (c .put .ensures .places) in
-    (
+    subst (λ n. take (c .put .last .self .len) (c .put .last .self .all) ≡ take n (c .loop-index .places .all) ++ place ∷ []) (s .1) (c .put .ensures .places) in (
       on .0,
       on .1,
       walk-on
-      (c .args .line .now) (now (enumerate-source (c .loop-index .index-iterator) .line)) (enumerate-source (c .loop-index .index-iterator) .from) (enumerate-count (c .loop-index .index-iterator)) (c .loop-index .places)
-      (c .in-Continue-start .start, c .in-Continue-start .end)
-      (now (enumerate-source (c .next .last .self) .line)) (enumerate-source (c .next .last .self) .from) (enumerate-count (c .next .last .self)) (c .put .last .self)
-      (c .loop-index .inv .2) (s .0 .0) (named .0) (named .1) (s .2) len places,
+          (c .args .line .now) (now (enumerate-source (c .loop-index .index-iterator) .line)) (enumerate-source (c .loop-index .index-iterator) .from) (enumerate-count (c .loop-index .index-iterator)) (c .loop-index .places)
+          (c .in-Continue-start .start, c .in-Continue-start .end)
+          (now (enumerate-source (c .next .last .self) .line)) (enumerate-source (c .next .last .self) .from) (enumerate-count (c .next .last .self)) (c .put .last .self)
+          (c .loop-index .inv .2) (s .0 .0) (named .0) (named .1) (s .2) len places,
     )

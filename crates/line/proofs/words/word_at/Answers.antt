@@ -1,21 +1,18 @@
-use mathlib.Core.Path.{_≡_, refl, sym, subst}
+use mathlib.Core.Path.{refl}
 use native.Mathlib.Omega.{arith}
-use lib.ListN.{length, length-drop}
-use Rattle.std.proofs.shelf.Lists.{take-rest}
-use Rattle.line.proofs.Splits.{Front, words-next}
+use lib.ListN.{length-drop}
+use Rattle.line.proofs.Splits.{front-from, words-next}
 use Rattle.line.proofs.words.word_at.Needs as need
 
 pub returns : need.returns
 returns c =
     let line = c .args .line .now in
     let from = c .args .from in
-    let same = take-rest line from in
     let told = c .until .ensures in
-    let f : Front 32 (c .until .result) _ = record { within = told .within; before = told .before; found = told .found } in
-    let front = subst (Front 32 (c .until .result)) same f in
+    let front = front-from 32 (c .until .result) from line (record { within = told .within; before = told .before; found = told .found }) in
     record {
       starts = refl;
       forward = omega arith;
       within = omega (arith, front .within, length-drop from line);
-      first = words-next line from (c .until .result) (c .if-from-line .left) front;
+      first = words-next line from (c .until .result) (omega arith) front;
     }

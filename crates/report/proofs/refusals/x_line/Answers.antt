@@ -1,11 +1,11 @@
 use Prim.Native.Nat.{_<_, _≤_}
 use mathlib.Core.Path.{_≡_, refl, ap, subst, _∙_}
-use mathlib.Core.List.{[], _∷_, _++_}
+use mathlib.Core.List.{[], _∷_, _++_, append-assoc}
 use native.Mathlib.Omega.{arith}
 use lib.ListN.{length, drop}
 use Rattle.std.specs.Written.{decimal}
 use Rattle.report.specs.Lines.{x-line}
-use Rattle.report.proofs.Pieces.{Fronted, nothing-yet, piece-on, parted, x-line-parts, parted-length, parted-stands}
+use Rattle.report.proofs.Pieces.{Fronted, nothing-yet, piece-on, parted, x-line-parts, parted-length, line-stands}
 use Rattle.report.proofs.refusals.x_line.Needs as need
 use Rattle.report.proofs.refusals.x_line.Needs.{After-as-slice-byte}
 
@@ -38,7 +38,7 @@ returns c =
     let f5 = piece-on _ _ (32 ∷ []) _ _ _ _ f4 (c .put-at-5 .ensures .after) (c .put-at-5 .ensures .value) in
     let f6 = piece-on _ _ d _ _ _ _ f5 (c .put-at-6 .ensures .after) (c .put-at-6 .ensures .value) in
     let f7 = piece-on _ _ (10 ∷ []) _ _ _ _ f6 (c .put .ensures .after) (c .put .ensures .value) in
-    let done = parted-stands a b d (c .args .area .now) (c .put .result) (c .put .last .area) f7 in
+    let done = line-stands _ (parted a b d) _ _ _ f7 (simp append-assoc) in
     let long = parted-length a b d in
     let fits : length (parted a b d) ≤ length (c .args .area .now) = omega (arith, long, c .if-area-number .left) in
     (done .0 ∙ ap length e, subst (λ l. length l ≤ length (c .args .area .now)) e fits, done .1 ∙ ap (λ l. l ++ drop (length l) (c .args .area .now)) e)

@@ -1,6 +1,6 @@
-use mathlib.Core.Path.{refl}
+use borrow.Author.Needs.{needs}
 use Rattle.grammar.proofs.Cuts.{text-cut}
 use Rattle.line.proofs.texts.Lines.of.Needs as need
 
 pub returns : need.returns
-returns c = record { left = (refl, refl); cut = text-cut (c .args .text .now) }
+returns c = record { left = search needs; cut = text-cut (c .args .text .now) }

@@ -11,7 +11,7 @@ pub loop-rest-holds : need.loop-rest-holds
 loop-rest-holds c =
     let low : 9 ≤ 9 = omega arith in
     let small : c .args .n < 2 ^ 32 = omega arith in
-    write-digit (c .args .n) (c .args .n) 9 (replicate 10 48) refl low small (append-nil (decimal (c .args .n)))
+    write-digit (c .args .n) (c .args .n) 9 _ (replicate 10 48) refl refl low small (append-nil (decimal (c .args .n)))
 
 pub sub-start : need.sub-start
 sub-start c =
@@ -25,7 +25,7 @@ loop-rest-again c =
     let some = place-left (c .args .n) (c .loop-rest .rest) (c .loop-rest .start) (c .loop-rest .places) small w (c .loop-rest-test .taken) in
     let low : c .loop-rest .start - 1 ≤ 9 = omega (arith, w .low) in
     let back : c .loop-rest .start - 1 + 1 ≡ c .loop-rest .start = omega arith in
-    write-digit (c .args .n) (c .loop-rest .rest) (c .loop-rest .start - 1) (c .loop-rest .places) (w .long) low (w .small) (ap (λ i. decimal (c .loop-rest .rest) ++ drop i (c .loop-rest .places)) back ∙ w .more (c .loop-rest-test .taken))
+    write-digit (c .args .n) (c .loop-rest .rest) (c .loop-rest .start - 1) _ (c .loop-rest .places) (omega arith) (w .long) low (w .small) (ap (λ i. decimal (c .loop-rest .rest) ++ drop i (c .loop-rest .places)) back ∙ w .more (c .loop-rest-test .taken))
 
 pub returns : need.returns
 returns c =
