@@ -1,7 +1,7 @@
 //! How many lines of each kind a text has.
 
 /// The lines of a text, counted by kind.
-#[derive(Clone, Copy, PartialEq, Eq, Debug)]
+#[derive(Clone, Copy)]
 pub struct Account {
     pub equations: u32,
     pub faults: u32,

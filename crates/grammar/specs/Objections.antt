@@ -26,7 +26,7 @@ Letter b = ((97 ≤ b) × (b ≤ 122)) ⊎ ((65 ≤ b) × (b ≤ 90))
 abbrev pub NameByte : ℕ → Type 0
 NameByte b = Letter b ⊎ (((48 ≤ b) × (b ≤ 57)) ⊎ (b ≡ 95))
 
--- a letter, and up to seven letters, digits or underscores
+-- a letter in front, then at most seven further name bytes
 pub record Name (w : List ℕ) : Type 0 where
   pub first : ℕ
   pub rest : List ℕ
@@ -46,7 +46,7 @@ Worded line = Marked line Equation ⊎ (Marked line Fault ⊎ Marked line Offer)
 abbrev pub Among : Word → List Word → Type 0
 Among w ws = (i : ℕ) × (i < length ws) × (getD ws i w ≡ w)
 
--- the line is not empty and has no known mark
+-- the line has a byte, and none of the marks in front
 abbrev pub Unmarked : List ℕ → Type 0
 Unmarked line = (0 < length line) × ((kind : Kind) → Marked line kind → ⊥)
 
@@ -85,7 +85,7 @@ spaced [] = []
 spaced (p ∷ []) = p
 spaced (p ∷ (q ∷ ps)) = p ++ 32 ∷ spaced (q ∷ ps)
 
--- what follows a mark is split at every space
+-- the line behind its mark, cut wherever a space stands
 pub record SplitAtSpaces (line : List ℕ) (ws : List Word) : Type 0 where
   pub joined : spaced (map (λ w. w .bytes) ws) ≡ drop 2 line
   pub spaceless : All (λ w. All (λ b. b ≢ 32) (w .bytes)) ws

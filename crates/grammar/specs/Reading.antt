@@ -26,7 +26,7 @@ abbrev pub odd-byte : ℕ → List ℕ → Option ℕ
 odd-byte k [] = None
 odd-byte k (b ∷ bs) = cond (is-plain b) (odd-byte (k + 1) bs) (Some k)
 
--- a comment is not split into words
+-- a comment has no words
 abbrev pub words-with : Kind → List ℕ → List Word
 words-with Equation line = words-of line
 words-with Fault line = words-of line

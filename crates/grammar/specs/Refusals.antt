@@ -28,7 +28,7 @@ number PageTooShort = 14
 number AreaTooShort = 15
 number GoalNotMet = 16
 
--- Of several grounds the earliest in this list is reported.
+-- The order in which grounds are checked: the first of them that applies is the one reported.
 abbrev pub checking-order : List Ground
 checking-order = TextTooLong ∷ LineTooLong ∷ ByteOutside ∷ NoMark ∷ NotAName ∷ WordCount ∷ NameTaken ∷ NotFound ∷ ModelFull ∷ SourceFull ∷ NoSuchNumber ∷ NoSuchGoal ∷ OfferNotOpen ∷ PageTooShort ∷ AreaTooShort ∷ GoalNotMet ∷ []
 

@@ -10,7 +10,7 @@ use Rattle.std.specs.Options.{Cases as BySome}
 use Rattle.std.specs.declared.option.Option.{Option}
 use Rattle.grammar.specs.Pieces.{cut}
 
--- byte 10 ends a line; the last line may lack it, and a last one opens no further line
+-- a line runs up to the next byte 10 or the end of the text; behind a last byte 10 there is none
 abbrev pub lines : List ℕ → List (List ℕ)
 lines text = cut 10 [] text
 

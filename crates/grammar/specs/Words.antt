@@ -21,11 +21,11 @@ abbrev pub placed : ℕ → List (List ℕ) → List Word
 placed k [] = []
 placed k (p ∷ ps) = word k p ∷ placed (k + length p + 1) ps
 
--- what lies from the index on, split at every space; past the end there is no word
+-- the pieces from an index on, cut wherever a space stands; behind the end of the line there is no word
 abbrev pub words-from : List ℕ → ℕ → List Word
 words-from line from = cond (leb from (length line)) (placed (from + 1) (cut 32 ([] ∷ []) (drop from line))) []
 
--- the words after the mark; where nothing follows it there are none
+-- the words behind the mark: none if the line ends there
 abbrev pub words-of : List ℕ → List Word
 words-of line = cond (ltb 2 (length line)) (words-from line 2) []
 
@@ -40,7 +40,7 @@ abbrev pub all-name-bytes : List ℕ → Bool
 all-name-bytes [] = true
 all-name-bytes (b ∷ bs) = is-name-byte b && all-name-bytes bs
 
--- a letter, and up to seven letters, digits or underscores
+-- a letter in front, then at most seven further name bytes
 abbrev pub is-name : List ℕ → Bool
 is-name [] = false
 is-name (b ∷ bs) = is-letter b && (leb (length bs) 7 && all-name-bytes bs)

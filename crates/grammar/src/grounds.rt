@@ -5,37 +5,37 @@ ghost use Rattle.grammar.specs.Refusals.{number};
 /// Every ground for a refusal. Its value is the number that a user is shown.
 #[derive(Clone, Copy, PartialEq, Eq, Debug)]
 pub enum Ground {
-    /// The text has more than 32,768 bytes.
+    /// The text exceeds 32,768 bytes.
     TextTooLong = 1,
-    /// The line has more than 240 bytes.
+    /// The line exceeds 240 bytes.
     LineTooLong = 2,
-    /// A byte of the line is outside 32 to 126.
+    /// The line has a byte below 32 or above 126.
     ByteOutside = 3,
-    /// The line is not empty and begins with no known mark.
+    /// A line with at least one byte starts with none of the four marks.
     NoMark = 4,
-    /// A word is not a name.
+    /// A word breaks the rule for names.
     NotAName = 5,
-    /// The mark takes another number of words.
+    /// The mark calls for another number of words.
     WordCount = 6,
-    /// A name is taken already, or an unknown stands twice in one equation.
+    /// A new name is in use, or an equation mentions an unknown again.
     NameTaken = 7,
     /// A name is looked up and stands for nothing.
     NotFound = 8,
-    /// A limit of the model would be passed.
+    /// The model would outgrow one of its limits.
     ModelFull = 9,
-    /// The room of the source would be passed.
+    /// The source would outgrow its room.
     SourceFull = 10,
     /// A number or a bit stands for nothing.
     NoSuchNumber = 11,
-    /// The goal is neither 1 nor 2.
+    /// There is no such goal.
     NoSuchGoal = 12,
-    /// A choice holds an offer that is not open.
+    /// The choice has an offer that is missing or not open.
     OfferNotOpen = 13,
     /// The page has room for no set.
     PageTooShort = 14,
-    /// The bytes to be written do not fit the area.
+    /// The area is shorter than what is to be written.
     AreaTooShort = 15,
-    /// No open choice meets the goal.
+    /// The goal is out of reach of all open choices.
     GoalNotMet = 16,
 }
 

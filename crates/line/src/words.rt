@@ -50,7 +50,7 @@ fn all_name_bytes(bytes: &[u8]) -> bool
     true
 }
 
-/// Whether a word is a name: a letter and up to seven letters, digits or underscores.
+/// Whether a word obeys the rule for names.
 fn is_name(word: &[u8]) -> bool
     ensures { λ r. ⌜ r ≡ is-name (now (word .entry)) ⌝ }
 {

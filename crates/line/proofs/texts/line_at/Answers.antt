@@ -7,7 +7,7 @@ use Rattle.line.proofs.Splits.{front-from, lines-next}
 use Rattle.line.proofs.texts.line_at.Needs as need
 
 pub returns-then-from-text : need.returns-then-from-text
-returns-then-from-text c = ap lines (drop-all _ (c .args .text .now) (c .if-from-text .taken))
+returns-then-from-text c = ap lines (drop-all (c .args .from) (c .args .text .now) (omega arith))
 
 pub returns : need.returns
 returns c =
