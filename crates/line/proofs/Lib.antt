@@ -1,4 +1,2 @@
-pub mod Names
-pub mod Splits
 pub mod Walks
 pub mod Verdicts

@@ -1,18 +1,17 @@
--- Reading a line, ground by ground. Assumes nothing.
+-- What `read_line` promises, from the checks that it makes. Assumes nothing.
 use Prim.Native.Nat.{ℕ, _≤_}
 use mathlib.Core.Path.{_≡_, sym, ap, subst, _∙_}
-use mathlib.Core.Bool.{Bool, true, false}
-use mathlib.Core.List.{List, [], _∷_}
+use mathlib.Core.Bool.{Bool}
+use mathlib.Core.List.{List}
 use lib.ListN.{length, take, length-map}
 use lib.Seq.{length-take-le}
 use native.Mathlib.Omega.{arith}
 use Rattle.std.specs.Vec.{refused}
 use Rattle.std.specs.declared.option.Option.{Option}
-use Rattle.std.specs.declared.option.Option.the-variants.{Some, None}
+use Rattle.std.specs.declared.option.Option.the-variants.{Some}
 use Rattle.std.specs.declared.result.Result.{Result}
-use Rattle.std.specs.declared.result.Result.the-variants.{Ok, Err}
-use Rattle.std.proofs.shelf.Lists.{nil-from-length}
-use Rattle.grammar.specs.declared.grounds.Ground.the-variants.{LineTooLong, ByteOutside, NoMark, NotAName, WordCount}
+use Rattle.std.specs.declared.result.Result.the-variants.{Err}
+use Rattle.grammar.specs.declared.grounds.Ground.the-variants.{WordCount}
 use Rattle.grammar.specs.declared.grounds.LineFault.{LineFault}
 use Rattle.grammar.specs.declared.marks.Kind.{Kind}
 use Rattle.line.specs.declared.places.Places.{Places}
@@ -24,38 +23,6 @@ use Rattle.grammar.proofs.Cuts.{words-split}
 use Rattle.grammar.proofs.Order.{by-grounds}
 use Rattle.line.specs.declared.records.Record.{Record}
 use Rattle.line.specs.Records.{word-in, words-in, told, ReadsLine}
-use Rattle.grammar.specs.Refusals.{fault}
-use Rattle.grammar.specs.Words.{Word}
-
-pub long-reads : (line : List ℕ) (k : ℕ) → stands line LineTooLong ≡ Some k → Err (fault LineTooLong k) ≡ reading line
-unfolding reading
-long-reads line k h = rw h
-
-pub odd-reads : (line : List ℕ) (k : ℕ) → stands line LineTooLong ≡ None → stands line ByteOutside ≡ Some k → Err (fault ByteOutside k) ≡ reading line
-unfolding reading
-odd-reads line k short h = rw (short, h)
-
-module _ (line : List ℕ) (short : stands line LineTooLong ≡ None) (plain : stands line ByteOutside ≡ None) where
-  pub empty-reads : length line ≡ 0 → Ok None ≡ reading line
-  unfolding reading
-  empty-reads e = let n = nil-from-length line e in rw n
-
-  pub unmarked-reads : (k : ℕ) → stands line NoMark ≡ Some k → Err (fault NoMark k) ≡ reading line
-  unfolding reading
-  unmarked-reads k h = rw (short, plain, h)
-
-  pub unnamed-reads : (k : ℕ) → stands line NoMark ≡ None → stands line NotAName ≡ Some k → Err (fault NotAName k) ≡ reading line
-  unfolding reading
-  unnamed-reads k m h = rw (short, plain, m, h)
-
-  pub miscounted-reads : (k : ℕ) → stands line NoMark ≡ None → stands line NotAName ≡ None → stands line WordCount ≡ Some k → Err (fault WordCount k) ≡ reading line
-  unfolding reading
-  miscounted-reads k m n h = rw (short, plain, m, n, h)
-
-  pub accepted-reads : (kind : Kind) (ws : List Word) → ws ≡ line-words line → line-kind line ≡ Some kind → stands line NoMark ≡ None → stands line NotAName ≡ None → stands line WordCount ≡ None →
-      Ok (Some (record { kind = kind; words = ws })) ≡ reading line
-  unfolding reading
-  accepted-reads kind ws e k m n h = rw (e, short, plain, m, n, h, k)
 
 -- as many places as words
 places-counted : (line : List ℕ) (ps : Places) → length (words-in line ps) ≡ ps .len

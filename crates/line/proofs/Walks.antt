@@ -1,27 +1,18 @@
--- A walk along the bytes and the words of a line. Assumes nothing.
+-- A walk along the words of a line. Assumes nothing.
 use Prim.Native.Nat.{ℕ, suc, _+_, _-_, _*_, _≤_, _<_}
-use mathlib.Core.Path.{_≡_, refl, sym, ap, subst, _∙_}
+use mathlib.Core.Path.{_≡_, sym, ap, subst, _∙_}
 use mathlib.Core.Bool.{Bool, true, false, cond}
 use mathlib.Core.List.{List, [], _∷_, _++_, map, append-assoc}
 use native.Mathlib.Omega.{arith}
-use lib.ListN.{length, getD, take, drop}
+use lib.ListN.{take}
 use Rattle.std.specs.Holes.{between}
-use Rattle.std.specs.declared.option.Option.the-variants.{Some, None}
-use Rattle.std.proofs.shelf.Lists.{map-append, at-drop-more, at-drop-all}
+use Rattle.std.proofs.shelf.Lists.{map-append}
 use Rattle.std.proofs.shelf.Ways.{tells, leb-tells}
 use mathlib.Core.Logic.{_⊎_, inl, inr, ⊎-elim}
 use Rattle.line.specs.declared.places.Places.{Places}
-use Rattle.grammar.specs.Marks.{line-kind}
-use Rattle.grammar.specs.Reading.{is-plain, odd-byte}
 use Rattle.line.specs.Records.{word-in, words-in}
 use Rattle.line.specs.Taking.{NamedWord}
 use Rattle.grammar.specs.Words.{Word, word, words-from, words-of, is-name, odd-name}
-
--- one byte is no mark
-pub short-unmarked : (line : List ℕ) → length line < 2 → line-kind line ≡ None
-short-unmarked [] short = refl
-short-unmarked (a ∷ []) short = refl
-short-unmarked (a ∷ (b ∷ bs)) short = absurd (omega arith)
 
 -- so many words have been taken, all of them names, and the next begins at `from`
 pub record Walked (line held : List ℕ) (from count : ℕ) (places : Places) : Type 0 where
@@ -57,13 +48,3 @@ walk-on line held from count places p after next more grown w keeps named on up 
       words = rw (words, on, append-assoc) (sym (ap (λ l. words-in line places ++ l) first) ∙ w .words);
       named = rw on (sym (ap odd-name first ∙ rw (here .named)) ∙ w .named);
     }
-
--- what is still to come has its first odd byte where the whole has it
-pub plain-more : (bs : List ℕ) (i : ℕ) → i < length bs → odd-byte (i + 1) (drop i bs) ≡ odd-byte 1 bs → true ≡ is-plain (getD bs i 0) → odd-byte (i + 1 + 1) (drop (i + 1) bs) ≡ odd-byte 1 bs
-plain-more bs i h inv t = ap (λ v. cond v (odd-byte (i + 1 + 1) (drop (i + 1) bs)) (Some (i + 1))) t ∙ sym (at-drop-more (odd-byte (i + 1)) bs i 0 h) ∙ inv
-
-pub plain-fails : (bs : List ℕ) (i : ℕ) → i < length bs → odd-byte (i + 1) (drop i bs) ≡ odd-byte 1 bs → false ≡ is-plain (getD bs i 0) → odd-byte 1 bs ≡ Some (i + 1)
-plain-fails bs i h inv t = sym inv ∙ at-drop-more (odd-byte (i + 1)) bs i 0 h ∙ sym (ap (λ v. cond v (odd-byte (i + 1 + 1) (drop (i + 1) bs)) (Some (i + 1))) t)
-
-pub plain-done : (bs : List ℕ) (i : ℕ) → length bs ≤ i → odd-byte (i + 1) (drop i bs) ≡ odd-byte 1 bs → odd-byte 1 bs ≡ None
-plain-done bs i h inv = sym inv ∙ at-drop-all (odd-byte (i + 1)) bs i h

@@ -2,7 +2,7 @@ use mathlib.Core.Path.{_≡_, sym}
 use mathlib.Core.Bool.{true, false}
 use Prim.Native.Nat.{ℕ}
 use native.Mathlib.Omega.{arith}
-use Rattle.line.proofs.Walks.{short-unmarked}
+use Rattle.grammar.proofs.Steps.{short-unmarked}
 use Rattle.line.proofs.reading.mark_kind.Needs as need
 
 pub returns-then-line-lt2 : need.returns-then-line-lt2

@@ -1,5 +1,5 @@
 use mathlib.Core.Path.{refl}
-use Rattle.line.proofs.Walks.{plain-more, plain-fails, plain-done}
+use Rattle.grammar.proofs.Steps.{plain-more, plain-fails, plain-done}
 use Rattle.line.proofs.reading.plain_bytes.Needs as need
 
 pub returns-then-not-is-plain : need.returns-then-not-is-plain

@@ -4,7 +4,8 @@ use borrow.Author.Tests.{true-eqb}
 use Rattle.std.specs.declared.option.Option.the-variants.{Some, None}
 use Rattle.std.specs.declared.result.Result.the-variants.{Ok}
 use Rattle.std.proofs.shelf.Results.{err-from-errBy}
-use Rattle.line.proofs.Verdicts.{long-reads, odd-reads, empty-reads, unmarked-reads, unnamed-reads, miscounted-reads, accepted-reads, count-stands, reads-line, refused-line}
+use Rattle.grammar.proofs.Steps.{long-reads, odd-reads, empty-reads, unmarked-reads, unnamed-reads, miscounted-reads, accepted-reads}
+use Rattle.line.proofs.Verdicts.{count-stands, reads-line, refused-line}
 use Rattle.line.proofs.reading.read_line.Needs as need
 
 pub returns-in-Break-sound-bytes : need.returns-in-Break-sound-bytes

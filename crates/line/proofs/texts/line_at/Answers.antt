@@ -3,7 +3,7 @@ use native.Mathlib.Omega.{arith}
 use lib.ListN.{length-drop}
 use Rattle.std.proofs.shelf.Lists.{drop-all}
 use Rattle.grammar.specs.Texts.{lines}
-use Rattle.line.proofs.Splits.{front-from, lines-next}
+use Rattle.grammar.proofs.Splits.{front-from, lines-next}
 use Rattle.line.proofs.texts.line_at.Needs as need
 
 pub returns-then-from-text : need.returns-then-from-text

@@ -1,4 +1,4 @@
-use Rattle.line.proofs.Names.{all-more, all-fails, all-done}
+use Rattle.grammar.proofs.Names.{all-more, all-fails, all-done}
 use Rattle.line.proofs.words.all_name_bytes.Needs as need
 
 pub returns-then-not-is-name-byte : need.returns-then-not-is-name-byte

@@ -1,5 +1,5 @@
 use mathlib.Core.Path.{_≡_, sym, _∙_}
-use Rattle.line.proofs.Names.{rest-decides}
+use Rattle.grammar.proofs.Names.{rest-decides}
 use Rattle.line.proofs.words.is_name.Needs as need
 
 pub returns-then-rest-le7 : need.returns-then-rest-le7

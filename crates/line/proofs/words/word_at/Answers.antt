@@ -1,7 +1,7 @@
 use mathlib.Core.Path.{refl}
 use native.Mathlib.Omega.{arith}
 use lib.ListN.{length-drop}
-use Rattle.line.proofs.Splits.{front-from, words-next}
+use Rattle.grammar.proofs.Splits.{front-from, words-next}
 use Rattle.line.proofs.words.word_at.Needs as need
 
 pub returns : need.returns
