@@ -22,17 +22,17 @@ use Rattle.grammar.specs.declared.marks.Kind.{Kind}
 use Rattle.grammar.specs.declared.marks.Kind.the-variants.{Equation, Fault, Offer, Comment}
 use Rattle.grammar.specs.Marks.{mark, line-kind}
 use Rattle.grammar.specs.declared.grounds.Ground.the-variants.{TextTooLong}
-use Rattle.grammar.specs.Reading.{Entry, line-words, reading}
+use Rattle.grammar.specs.Reading.{Entry, line-words, line-reading}
 use Rattle.grammar.specs.Texts.{lines, lines-from, FirstLine}
 use Rattle.grammar.proofs.Order.{read-entry}
 use Rattle.line.specs.declared.records.Record.{Record}
-use Rattle.line.specs.Records.{entered, told}
+use Rattle.line.specs.Records.{entry-of, told}
 use Rattle.account.specs.declared.accounts.Account.{Account}
-use Rattle.account.specs.Checking.{mark-by, marked, counts, in-line, or-refused, first-refused, account-or, account, FirstRefused, Checked}
-use Rattle.account.specs.Noting.{kind-by, Counts, Below, Noted}
+use Rattle.account.specs.Checking.{mark-by, marked, counts, in-line, or-refused, first-refused, account-or, account, FirstRefused, CheckedText}
+use Rattle.account.specs.Noting.{kind-by, CountsLines, FewerThan, Noted}
 
 abbrev Reads : List ℕ → Type 0
-Reads l = isOk (reading l) ≡ true
+Reads l = isOk (line-reading l) ≡ true
 
 -- ---- counting
 
@@ -48,23 +48,23 @@ marked-few c (l ∷ ls) = let r = marked-few c ls in by (eqb (mark-by (line-kind
     by true r = omega arith
     by false r = omega arith
 
-counts-is : (ls : List (List ℕ)) (a : Account) → Counts (λ c. marked c ls) a → a ≡ counts ls
+counts-is : (ls : List (List ℕ)) (a : Account) → CountsLines (λ c. marked c ls) a → a ≡ counts ls
 counts-is ls a h = λ i. record { equations = h .equations i; faults = h .faults i; offers = h .offers i; comments = h .comments i; empty = h .empty i }
 
 -- ---- the first refused line
 
 all-read : (n : ℕ) (ls : List (List ℕ)) → All Reads ls → first-refused n ls ≡ None
 all-read n [] h = refl
-all-read n (l ∷ ls) h = by (reading l) (h .0) ∙ all-read (n + 1) ls (h .1)
+all-read n (l ∷ ls) h = by (line-reading l) (h .0) ∙ all-read (n + 1) ls (h .1)
   where
     by : (r : Result (Option Entry) LineFault) → isOk r ≡ true → or-refused n r (first-refused (n + 1) ls) ≡ first-refused (n + 1) ls
     by (Ok o) e = refl
     by (Err f) e = absurd (let y : _≡_ {A = ℕ} 0 1 = cc in omega arith)
 
-first-bad : (n : ℕ) (before : List (List ℕ)) (bad : List ℕ) (after : List (List ℕ)) (f : LineFault) → All Reads before → reading bad ≡ Err f →
+first-bad : (n : ℕ) (before : List (List ℕ)) (bad : List ℕ) (after : List (List ℕ)) (f : LineFault) → All Reads before → line-reading bad ≡ Err f →
     first-refused n (before ++ bad ∷ after) ≡ Some (in-line (n + length before) f)
 first-bad n [] bad after f h e = rw e (ap (λ k. Some (in-line k f)) (omega arith))
-first-bad n (l ∷ before) bad after f h e = by (reading l) (h .0) ∙ first-bad (n + 1) before bad after f (h .1) e ∙ ap (λ k. Some (in-line k f)) (omega arith)
+first-bad n (l ∷ before) bad after f h e = by (line-reading l) (h .0) ∙ first-bad (n + 1) before bad after f (h .1) e ∙ ap (λ k. Some (in-line k f)) (omega arith)
   where
     by : (r : Result (Option Entry) LineFault) → isOk r ≡ true → or-refused n r (first-refused (n + 1) (before ++ bad ∷ after)) ≡ first-refused (n + 1) (before ++ bad ∷ after)
     by (Ok o) e = refl
@@ -80,10 +80,10 @@ pub record Sofar (text held : List ℕ) (from n : ℕ) (a : Account) : Type 0 wh
   pub whole : lines text ≡ taken ++ lines-from text from
   pub many : length taken ≡ n
   pub read : All Reads taken
-  pub counted : Counts (λ c. marked c taken) a
+  pub counted : CountsLines (λ c. marked c taken) a
 
 -- an account of the lines so far has room for one more
-pub room : (text held : List ℕ) (from n : ℕ) (a : Account) → Sofar text held from n a → from < length text → Below 32768 a
+pub room : (text held : List ℕ) (from n : ℕ) (a : Account) → Sofar text held from n a → from < length text → FewerThan 32768 a
 room text held from n a s inside = record {
   equations = below (mark Equation) (s .counted .equations);
   faults = below (mark Fault) (s .counted .faults);
@@ -103,23 +103,23 @@ kinds-back : (f : Kind → Entry) → ((kind : Kind) → f kind .kind ≡ kind) 
 kinds-back f h None = refl
 kinds-back f h (Some kind) = ap Some (h kind)
 
-entered-kind : (line : List ℕ) (o : Option Record) → kind-by o ≡ mapped (λ x. x .kind) (mapped (entered line) o)
+entered-kind : (line : List ℕ) (o : Option Record) → kind-by o ≡ mapped (λ x. x .kind) (mapped (entry-of line) o)
 entered-kind line None = refl
 entered-kind line (Some r) = refl
 
 -- a record that was read has the kind of its line
-kind-read : (line : List ℕ) (o : Option Record) → told line (Ok o) ≡ reading line → kind-by o ≡ line-kind line
+kind-read : (line : List ℕ) (o : Option Record) → told line (Ok o) ≡ line-reading line → kind-by o ≡ line-kind line
 kind-read line o e =
     let f : Kind → Entry = λ kind. record { kind = kind; words = line-words line } in
-    entered-kind line o ∙ ap (mapped (λ x. x .kind)) (read-entry line (mapped (entered line) o) (sym e)) ∙ kinds-back f (λ _. refl) (line-kind line)
+    entered-kind line o ∙ ap (mapped (λ x. x .kind)) (read-entry line (mapped (entry-of line) o) (sym e)) ∙ kinds-back f (λ _. refl) (line-kind line)
 
-counts-like : (f g : ℕ → ℕ) (a : Account) → ((c : ℕ) → f c ≡ g c) → Counts f a → Counts g a
+counts-like : (f g : ℕ → ℕ) (a : Account) → ((c : ℕ) → f c ≡ g c) → CountsLines f a → CountsLines g a
 counts-like f g a e h = record { equations = h .equations ∙ e _; faults = h .faults ∙ e _; offers = h .offers ∙ e _; comments = h .comments ∙ e _; empty = h .empty ∙ e _ }
 
 -- one line more was read
 pub line-on : (text held : List ℕ) (from n : ℕ) (a : Account) (p : ℕ × ℕ) (after : List ℕ) (next more : ℕ) (o : Option Record) (b : Account) →
     Sofar text held from n a → FirstLine held from p → after ≡ held → next ≡ p .1 + 1 → more ≡ n + 1 →
-    told (between (p .0) (p .1) text) (Ok o) ≡ reading (between (p .0) (p .1) text) → Noted (kind-by o) a b → Sofar text after next more b
+    told (between (p .0) (p .1) text) (Ok o) ≡ line-reading (between (p .0) (p .1) text) → Noted (kind-by o) a b → Sofar text after next more b
 line-on text held from n a p after next more o b s first keeps on up reads noted =
     let here : FirstLine text from p = subst (λ h. FirstLine h from p) (s .same) first in
     let l = between (p .0) (p .1) text in
@@ -143,7 +143,7 @@ fits : (text : List ℕ) → length text ≤ 32768 → account text ≡ account-
 fits text h = let e : leb (length text) 32768 ≡ true = grind (arith, leb-tells (length text) 32768) in rw e
 
 -- every line was read
-pub all-lines : (text held : List ℕ) (from n : ℕ) (a : Account) → Sofar text held from n a → lines-from held from ≡ [] → (Ok a ≡ account text) × Checked text (Ok a)
+pub all-lines : (text held : List ℕ) (from n : ℕ) (a : Account) → Sofar text held from n a → lines-from held from ≡ [] → (Ok a ≡ account text) × CheckedText text (Ok a)
 all-lines text held from n a s none =
     let left : lines-from text from ≡ [] = subst (λ h. lines-from h from ≡ []) (s .same) none in
     let all : lines text ≡ s .taken = s .whole ∙ ap (λ x. s .taken ++ x) left ∙ append-nil (s .taken) in
@@ -153,7 +153,7 @@ all-lines text held from n a s none =
 
 -- a line was refused
 pub bad-line : (text held : List ℕ) (from n : ℕ) (a : Account) (p : ℕ × ℕ) (i : ℕ) (f : LineFault) (r : Refusal) →
-    Sofar text held from n a → FirstLine held from p → i ≡ n → reading (between (p .0) (p .1) text) ≡ Err f → r ≡ in-line (i + 1) f → (Err r ≡ account text) × Checked text (Err r)
+    Sofar text held from n a → FirstLine held from p → i ≡ n → line-reading (between (p .0) (p .1) text) ≡ Err f → r ≡ in-line (i + 1) f → (Err r ≡ account text) × CheckedText text (Err r)
 bad-line text held from n a p i f r s first at reads is =
     let here : FirstLine text from p = subst (λ h. FirstLine h from p) (s .same) first in
     let l = between (p .0) (p .1) text in

@@ -18,7 +18,7 @@ use Rattle.grammar.specs.declared.grounds.Refusal.{Refusal}
 use Rattle.grammar.specs.declared.marks.Kind.{Kind}
 use Rattle.grammar.specs.declared.marks.Kind.the-variants.{Equation, Fault, Offer, Comment}
 use Rattle.grammar.specs.Marks.{mark, line-kind}
-use Rattle.grammar.specs.Reading.{Entry, reading}
+use Rattle.grammar.specs.Reading.{Entry, line-reading}
 use Rattle.grammar.specs.Texts.{lines}
 use Rattle.account.specs.declared.accounts.Account.{Account}
 
@@ -51,7 +51,7 @@ or-refused n (Err f) later = Some (in-line n f)
 -- the first line that cannot be read; the first of the lines has the number n
 abbrev pub first-refused : ℕ → List (List ℕ) → Option Refusal
 first-refused n [] = None
-first-refused n (l ∷ ls) = or-refused n (reading l) (first-refused (n + 1) ls)
+first-refused n (l ∷ ls) = or-refused n (line-reading l) (first-refused (n + 1) ls)
 
 abbrev pub account-or : Option Refusal → List (List ℕ) → Result Account Refusal
 account-or None ls = Ok (counts ls)
@@ -67,13 +67,13 @@ pub record FirstRefused (ls : List (List ℕ)) (r : Refusal) : Type 0 where
   pub after : List (List ℕ)
   pub fault : LineFault
   pub whole : ls ≡ before ++ bad ∷ after
-  pub read : All (λ l. isOk (reading l) ≡ true) before
-  pub refused : reading bad ≡ Err fault
+  pub read : All (λ l. isOk (line-reading l) ≡ true) before
+  pub refused : line-reading bad ≡ Err fault
   pub shown : r ≡ in-line (length before + 1) fault
 
 -- The law of checking: every line reads and is counted; or the text is too long; or its first line that cannot be read is reported.
-abbrev pub Checked : List ℕ → Result Account Refusal → Type 0
-Checked text r =
+abbrev pub CheckedText : List ℕ → Result Account Refusal → Type 0
+CheckedText text r =
     Cases r
-    (λ a. (length text ≤ 32768) × All (λ l. isOk (reading l) ≡ true) (lines text) × (a ≡ counts (lines text)))
+    (λ a. (length text ≤ 32768) × All (λ l. isOk (line-reading l) ≡ true) (lines text) × (a ≡ counts (lines text)))
     (λ e. ((32768 < length text) × (e ≡ record { ground = TextTooLong; line = 0; byte = 0 })) ⊎ ((length text ≤ 32768) × FirstRefused (lines text) e))

@@ -16,7 +16,7 @@ abbrev pub kind-by : Option Record → Option Kind
 kind-by o = mapped (λ r. r .kind) o
 
 -- the account has f c lines of the mark c
-pub record Counts (f : ℕ → ℕ) (a : Account) : Type 0 where
+pub record CountsLines (f : ℕ → ℕ) (a : Account) : Type 0 where
   pub equations : a .equations ≡ f (mark Equation)
   pub faults : a .faults ≡ f (mark Fault)
   pub offers : a .offers ≡ f (mark Offer)
@@ -24,7 +24,7 @@ pub record Counts (f : ℕ → ℕ) (a : Account) : Type 0 where
   pub empty : a .empty ≡ f 0
 
 -- each count is below n
-pub record Below (n : ℕ) (a : Account) : Type 0 where
+pub record FewerThan (n : ℕ) (a : Account) : Type 0 where
   pub equations : a .equations < n
   pub faults : a .faults < n
   pub offers : a .offers < n
@@ -33,4 +33,4 @@ pub record Below (n : ℕ) (a : Account) : Type 0 where
 
 -- one line more of the kind, and nothing else
 abbrev pub Noted : Option Kind → Account → Account → Type 0
-Noted o a b = (f : ℕ → ℕ) → Counts f a → Counts (λ c. f c + cond (eqb (mark-by o) c) 1 0) b
+Noted o a b = (f : ℕ → ℕ) → CountsLines f a → CountsLines (λ c. f c + cond (eqb (mark-by o) c) 1 0) b

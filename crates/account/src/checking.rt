@@ -14,8 +14,8 @@ ghost use mathlib.Core.Bool.{cond};
 ghost use lib.Dec.{eqb};
 ghost use Rattle.grammar.specs.Marks.{mark};
 ghost use Rattle.grammar.specs.declared.marks.Kind.the-variants.{Equation, Fault, Offer, Comment};
-ghost use Rattle.account.specs.Checking.{account, in-line, Checked};
-ghost use Rattle.account.specs.Noting.{kind-by, Below, Noted};
+ghost use Rattle.account.specs.Checking.{account, in-line, CheckedText};
+ghost use Rattle.account.specs.Noting.{kind-by, FewerThan, Noted};
 
 impl Account {
     fn none() -> Account
@@ -32,7 +32,7 @@ impl Account {
 
     /// One line more.
     fn note(&mut self, line: Option<Record>)
-        requires { ⌜ Below 32768 (now self) ⌝ }
+        requires { ⌜ FewerThan 32768 (now self) ⌝ }
         ensures { λ _. ⌜ (Noted (kind-by line) (now (self .entry)) (now (self .exit))) ⌝ }
     {
         match line {
@@ -62,7 +62,7 @@ fn in_line(index: usize, fault: LineFault) -> Refusal
 /// Checks a text line by line: what it holds, or the first line that cannot be read.
 pub fn check_text(text: &[u8]) -> Result<Account, Refusal>
     ensures value { λ r. ⌜ r ≡ account (now (text .entry)) ⌝ }
-    ensures law { λ r. ⌜ Checked (now (text .entry)) r ⌝ }
+    ensures law { λ r. ⌜ CheckedText (now (text .entry)) r ⌝ }
 {
     if let Err(fault) = text_fits(text) {
         return Err(Refusal {

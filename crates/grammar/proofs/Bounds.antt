@@ -19,10 +19,10 @@ use Rattle.grammar.specs.declared.marks.Kind.{Kind}
 use Rattle.grammar.specs.declared.marks.Kind.the-variants.{Equation, Fault, Offer, Comment}
 use Rattle.grammar.specs.Marks.{line-kind}
 use Rattle.grammar.specs.Objections.{spaced}
-use Rattle.grammar.specs.Pieces.{cut}
-use Rattle.grammar.specs.Reading.{is-plain, odd-byte, unless, words-by, line-words, takes-by, stands, entry, answer, reading}
+use Rattle.grammar.specs.Pieces.{cut-at}
+use Rattle.grammar.specs.Reading.{is-plain, odd-byte, unless, words-by, line-words, takes-by, stands, entry, answer, line-reading}
 use Rattle.grammar.specs.Refusals.{checking-order, else-after, first-fault}
-use Rattle.grammar.specs.Words.{Word, placed, words-of, is-name, odd-name}
+use Rattle.grammar.specs.Words.{Word, with-places, words-of, is-name, odd-name}
 use Rattle.grammar.proofs.Cuts.{spaced-cut}
 
 -- a place that is at most n, if there is one
@@ -49,7 +49,7 @@ byte-within n k (b ∷ bs) h = by (is-plain b) (byte-within n (k + 1) bs (omega 
     by false r = omega arith
 
 -- the pieces and the spaces between them end before n
-name-within : (n k : ℕ) (ps : List (List ℕ)) → k + length (spaced ps) ≤ n → Within n (odd-name (placed k ps))
+name-within : (n k : ℕ) (ps : List (List ℕ)) → k + length (spaced ps) ≤ n → Within n (odd-name (with-places k ps))
 name-within n k [] h = tt
 name-within n k (p ∷ []) h = by (is-name p)
   where
@@ -58,7 +58,7 @@ name-within n k (p ∷ []) h = by (is-name p)
     by false = omega arith
 name-within n k (p ∷ (q ∷ ps)) h = by (is-name p) (name-within n (k + length p + 1) (q ∷ ps) (omega (arith, length-append p (32 ∷ spaced (q ∷ ps)))))
   where
-    by : (v : Bool) → Within n (odd-name (placed (k + length p + 1) (q ∷ ps))) → Within n (cond v (odd-name (placed (k + length p + 1) (q ∷ ps))) (Some k))
+    by : (v : Bool) → Within n (odd-name (with-places (k + length p + 1) (q ∷ ps))) → Within n (cond v (odd-name (with-places (k + length p + 1) (q ∷ ps))) (Some k))
     by true r = r
     by false r = omega arith
 
@@ -66,7 +66,7 @@ words-within : (line : List ℕ) → length line ≤ 240 → Within 241 (odd-nam
 words-within line h =
     ⊎-elim
     (λ t. rw (t .0) (⊎-elim
-    (λ u. rw (u .0) (name-within 241 3 (cut 32 ([] ∷ []) (drop 2 line)) (omega (arith, t .1, length-drop 2 line, ap length (spaced-cut (drop 2 line))))))
+    (λ u. rw (u .0) (name-within 241 3 (cut-at 32 ([] ∷ []) (drop 2 line)) (omega (arith, t .1, length-drop 2 line, ap length (spaced-cut (drop 2 line))))))
     (λ u. rw (u .0) tt)
     (leb-tells 2 (length line))))
     (λ t. rw (t .0) tt)
@@ -97,6 +97,6 @@ answer-within n None x h = tt
 answer-within n (Some f) x h = h
 
 -- the place of an empty word at the end of a line of 240 bytes is the last
-pub byte-bound : (line : List ℕ) → refused (reading line) (λ f. f .byte ≤ 241)
-unfolding reading
+pub byte-bound : (line : List ℕ) → refused (line-reading line) (λ f. f .byte ≤ 241)
+unfolding line-reading
 byte-bound line = answer-within 241 (first-fault (stands line) checking-order) (entry line) (first-within line)

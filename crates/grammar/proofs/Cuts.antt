@@ -13,45 +13,45 @@ use Rattle.std.specs.shelf.Lists.{All}
 use Rattle.std.proofs.shelf.Lists.{take-at, drop-at, drop-all, length-push}
 use Rattle.std.proofs.shelf.Ways.{tells, eqb-tells, leb-tells}
 use Rattle.grammar.specs.Objections.{spaced, SplitAtSpaces}
-use Rattle.grammar.specs.Pieces.{glue, cut}
+use Rattle.grammar.specs.Pieces.{onto-first, cut-at}
 use Rattle.grammar.specs.Texts.{lines, ended, CutIntoLines}
-use Rattle.grammar.specs.Words.{Word, word, placed, words-from, words-of}
+use Rattle.grammar.specs.Words.{Word, word, with-places, words-from, words-of}
 
 -- no piece holds the separator
 abbrev Apart : ℕ → List (List ℕ) → Type 0
 Apart s ps = All (λ p. All (λ b. b ≢ s) p) ps
 
-glue-apart : (s b : ℕ) (ps : List (List ℕ)) → b ≢ s → Apart s ps → Apart s (glue b ps)
+glue-apart : (s b : ℕ) (ps : List (List ℕ)) → b ≢ s → Apart s ps → Apart s (onto-first b ps)
 glue-apart s b [] ne h = ((ne, tt), tt)
 glue-apart s b (p ∷ ps) ne h = ((ne, h .0), h .1)
 
-pub cut-apart : (s : ℕ) (last : List (List ℕ)) (bs : List ℕ) → Apart s last → Apart s (cut s last bs)
+pub cut-apart : (s : ℕ) (last : List (List ℕ)) (bs : List ℕ) → Apart s last → Apart s (cut-at s last bs)
 cut-apart s last [] h = h
 cut-apart s last (b ∷ bs) h =
     let r = cut-apart s last bs h in
     ⊎-elim
     (λ t. rw (t .0) (tt, r))
-    (λ t. rw (t .0) (glue-apart s b (cut s last bs) (t .1) r))
+    (λ t. rw (t .0) (glue-apart s b (cut-at s last bs) (t .1) r))
     (eqb-tells b s)
 
 -- pieces that are there
 abbrev Some-pieces : List (List ℕ) → Type 0
 Some-pieces ps = 0 < length ps
 
-glue-some : (b : ℕ) (ps : List (List ℕ)) → Some-pieces (glue b ps)
+glue-some : (b : ℕ) (ps : List (List ℕ)) → Some-pieces (onto-first b ps)
 glue-some b [] = omega arith
 glue-some b (p ∷ ps) = omega arith
 
-cut-some : (s : ℕ) (last : List (List ℕ)) (b : ℕ) (bs : List ℕ) → Some-pieces (cut s last (b ∷ bs))
+cut-some : (s : ℕ) (last : List (List ℕ)) (b : ℕ) (bs : List ℕ) → Some-pieces (cut-at s last (b ∷ bs))
 cut-some s last b bs =
     ⊎-elim
     (λ t. rw (t .0) (omega arith))
-    (λ t. rw (t .0) (glue-some b (cut s last bs)))
+    (λ t. rw (t .0) (glue-some b (cut-at s last bs)))
     (eqb-tells b s)
 
 -- ---- words
 
-spaced-glue : (b : ℕ) (ps : List (List ℕ)) → Some-pieces ps → spaced (glue b ps) ≡ b ∷ spaced ps
+spaced-glue : (b : ℕ) (ps : List (List ℕ)) → Some-pieces ps → spaced (onto-first b ps) ≡ b ∷ spaced ps
 spaced-glue b [] h = absurd (omega arith)
 spaced-glue b (p ∷ []) h = refl
 spaced-glue b (p ∷ (q ∷ ps)) h = refl
@@ -60,25 +60,25 @@ spaced-space : (ps : List (List ℕ)) → Some-pieces ps → spaced ([] ∷ ps) 
 spaced-space [] h = absurd (omega arith)
 spaced-space (p ∷ ps) h = refl
 
-words-some : (bs : List ℕ) → Some-pieces (cut 32 ([] ∷ []) bs)
+words-some : (bs : List ℕ) → Some-pieces (cut-at 32 ([] ∷ []) bs)
 words-some [] = omega arith
 words-some (b ∷ bs) = cut-some 32 ([] ∷ []) b bs
 
-pub spaced-cut : (bs : List ℕ) → spaced (cut 32 ([] ∷ []) bs) ≡ bs
+pub spaced-cut : (bs : List ℕ) → spaced (cut-at 32 ([] ∷ []) bs) ≡ bs
 spaced-cut [] = refl
 spaced-cut (b ∷ bs) =
     let r = spaced-cut bs in
     let some = words-some bs in
     ⊎-elim
-    (λ t. rw (t .0) (spaced-space (cut 32 ([] ∷ []) bs) some ∙ ap (λ l. 32 ∷ l) r ∙ ap (λ x. x ∷ bs) (sym (t .1))))
-    (λ t. rw (t .0) (spaced-glue b (cut 32 ([] ∷ []) bs) some ∙ ap (λ l. b ∷ l) r))
+    (λ t. rw (t .0) (spaced-space (cut-at 32 ([] ∷ []) bs) some ∙ ap (λ l. 32 ∷ l) r ∙ ap (λ x. x ∷ bs) (sym (t .1))))
+    (λ t. rw (t .0) (spaced-glue b (cut-at 32 ([] ∷ []) bs) some ∙ ap (λ l. b ∷ l) r))
     (eqb-tells b 32)
 
-placed-bytes : (k : ℕ) (ps : List (List ℕ)) → map (λ w. w .bytes) (placed k ps) ≡ ps
+placed-bytes : (k : ℕ) (ps : List (List ℕ)) → map (λ w. w .bytes) (with-places k ps) ≡ ps
 placed-bytes k [] = refl
 placed-bytes k (p ∷ ps) = ap (λ l. p ∷ l) (placed-bytes (k + length p + 1) ps)
 
-placed-apart : (k : ℕ) (ps : List (List ℕ)) → Apart 32 ps → All (λ w. All (λ b. b ≢ 32) (w .bytes)) (placed k ps)
+placed-apart : (k : ℕ) (ps : List (List ℕ)) → Apart 32 ps → All (λ w. All (λ b. b ≢ 32) (w .bytes)) (with-places k ps)
 placed-apart k [] h = tt
 placed-apart k (p ∷ ps) h = (h .0, placed-apart (k + length p + 1) ps (h .1))
 
@@ -92,7 +92,7 @@ standing line from p rest two e =
     let n : from + length p - from ≡ length p = omega arith in
     (omega arith, rw (i, n, e, take-at p rest (length p) refl))
 
-placed-standing : (line : List ℕ) (from : ℕ) (ps : List (List ℕ)) → 2 ≤ from → spaced ps ≡ drop from line → All (Standing line) (placed (from + 1) ps)
+placed-standing : (line : List ℕ) (from : ℕ) (ps : List (List ℕ)) → 2 ≤ from → spaced ps ≡ drop from line → All (Standing line) (with-places (from + 1) ps)
 placed-standing line from [] two e = tt
 placed-standing line from (p ∷ []) two e = (standing line from p [] two (sym e ∙ sym (append-nil p)), tt)
 placed-standing line from (p ∷ (q ∷ ps)) two e =
@@ -103,7 +103,7 @@ placed-standing line from (p ∷ (q ∷ ps)) two e =
 
 pub words-split : (line : List ℕ) → SplitAtSpaces line (words-of line)
 words-split line =
-    let ps = cut 32 ([] ∷ []) (drop 2 line) in
+    let ps = cut-at 32 ([] ∷ []) (drop 2 line) in
     let long = length-drop 2 line in
     let two : 2 ≤ 2 = omega arith in
     ⊎-elim
@@ -124,7 +124,7 @@ words-split line =
 
 -- ---- lines
 
-ended-glue : (b : ℕ) (ls : List (List ℕ)) → Some-pieces ls → ended (glue b ls) ≡ b ∷ ended ls
+ended-glue : (b : ℕ) (ls : List (List ℕ)) → Some-pieces ls → ended (onto-first b ls) ≡ b ∷ ended ls
 ended-glue b [] h = absurd (omega arith)
 ended-glue b (l ∷ ls) h = refl
 

@@ -21,8 +21,8 @@ use Rattle.grammar.specs.declared.grounds.LineFault.{LineFault}
 use Rattle.grammar.specs.declared.marks.Kind.{Kind}
 use Rattle.grammar.specs.declared.marks.Kind.the-variants.{Equation, Fault, Offer, Comment}
 use Rattle.grammar.specs.Marks.{line-kind}
-use Rattle.grammar.specs.Objections.{Name, Marked, Worded, Unmarked, Stands, Enters, ByGrounds}
-use Rattle.grammar.specs.Reading.{Entry, stands, line-words, entry, answer, reading}
+use Rattle.grammar.specs.Objections.{Name, Marked, HasWords, Unmarked, Applies, Enters, ByGrounds}
+use Rattle.grammar.specs.Reading.{Entry, stands, line-words, entry, answer, line-reading}
 use Rattle.grammar.specs.Refusals.{checking-order, else-after, first-fault, FirstInOrder}
 use Rattle.grammar.specs.Words.{Word, words-of, is-name, odd-name}
 use Rattle.grammar.proofs.Standing.{Leftmost, each-ground, name-decides, kind-from-mark, mark-from-kind, unmarked}
@@ -77,7 +77,7 @@ all-names (w ∷ ws) e = by (all-names ws) (is-name (w .bytes)) refl
     by rest true t = (name-decides (w .bytes) .0 t, rest (sym (rw t) ∙ e))
     by rest false t = absurd (let z : Some (w .start) ≡ None = sym (rw t) ∙ e in let y : _≡_ {A = ℕ} 0 1 = cc in omega arith)
 
-worded-words : (line : List ℕ) → Worded line → line-words line ≡ words-of line
+worded-words : (line : List ℕ) → HasWords line → line-words line ≡ words-of line
 worded-words line (inl m) = rw (kind-from-mark line Equation m)
 worded-words line (inr (inl m)) = rw (kind-from-mark line Fault m)
 worded-words line (inr (inr m)) = rw (kind-from-mark line Offer m)
@@ -85,12 +85,12 @@ worded-words line (inr (inr m)) = rw (kind-from-mark line Offer m)
 comment-words : (line : List ℕ) → Marked line Comment → line-words line ≡ []
 comment-words line m = rw (kind-from-mark line Comment m)
 
-empty-line : (line : List ℕ) → line-kind line ≡ None → ((k : ℕ) → Stands line NoMark k → ⊥) → line ≡ []
+empty-line : (line : List ℕ) → line-kind line ≡ None → ((k : ℕ) → Applies line NoMark k → ⊥) → line ≡ []
 empty-line [] e free = refl
 empty-line (b ∷ bs) e free = absurd (free 0 ((omega arith, unmarked (b ∷ bs) e), refl))
 
 enters : (line : List ℕ) (m : Option Kind) → line-kind line ≡ m → All (λ g. stands line g ≡ None) checking-order → Enters line (mapped (λ kind. record { kind = kind; words = line-words line }) m)
-enters line None k h = empty-line line k (free-of (stands line NoMark) (Stands line NoMark) (every-ground (λ g. stands line g ≡ None) h NoMark) (each-ground line NoMark))
+enters line None k h = empty-line line k (free-of (stands line NoMark) (Applies line NoMark) (every-ground (λ g. stands line g ≡ None) h NoMark) (each-ground line NoMark))
 enters line (Some kind) k h = (
   mark-from-kind line kind k,
   worded-words line,
@@ -99,17 +99,17 @@ enters line (Some kind) k h = (
 )
 
 -- what reading says of every line, in words
-pub by-grounds : (line : List ℕ) → ByGrounds line (reading line)
-unfolding reading
-by-grounds line = by (first-fault (stands line) checking-order) (first-law (stands line) (Stands line) (each-ground line) checking-order)
+pub by-grounds : (line : List ℕ) → ByGrounds line (line-reading line)
+unfolding line-reading
+by-grounds line = by (first-fault (stands line) checking-order) (first-law (stands line) (Applies line) (each-ground line) checking-order)
   where
-    by : (o : Option LineFault) → BySome o (All (λ g. stands line g ≡ None) checking-order) (FirstInOrder (Stands line) checking-order) → ByGrounds line (answer o (entry line))
-    by None h = (λ g. free-of (stands line g) (Stands line g) (every-ground (λ x. stands line x ≡ None) h g) (each-ground line g), enters line (line-kind line) refl h)
+    by : (o : Option LineFault) → BySome o (All (λ g. stands line g ≡ None) checking-order) (FirstInOrder (Applies line) checking-order) → ByGrounds line (answer o (entry line))
+    by None h = (λ g. free-of (stands line g) (Applies line g) (every-ground (λ x. stands line x ≡ None) h g) (each-ground line g), enters line (line-kind line) refl h)
     by (Some x) h = h
 
 -- a line that reads enters what its mark and words say
-pub read-entry : (line : List ℕ) (x : Option Entry) → reading line ≡ Ok x → x ≡ entry line
-unfolding reading
+pub read-entry : (line : List ℕ) (x : Option Entry) → line-reading line ≡ Ok x → x ≡ entry line
+unfolding line-reading
 read-entry line x e = by (first-fault (stands line) checking-order) e
   where
     by : (o : Option LineFault) → answer o (entry line) ≡ Ok x → x ≡ entry line

@@ -12,9 +12,9 @@ use lib.Seq.{drop-drop, length-take-le}
 use Rattle.std.specs.Holes.{between}
 use Rattle.std.proofs.shelf.Lists.{take-all, take-rest, drop-all}
 use Rattle.std.proofs.shelf.Ways.{tells, eqb-tells, leb-tells}
-use Rattle.grammar.specs.Pieces.{glue, cut}
+use Rattle.grammar.specs.Pieces.{onto-first, cut-at}
 use Rattle.grammar.specs.Texts.{lines-from}
-use Rattle.grammar.specs.Words.{word, placed, words-from}
+use Rattle.grammar.specs.Words.{word, with-places, words-from}
 
 -- the first n of the bytes are no separator, and the next one is, unless they are all
 pub record Front (separator n : ℕ) (bs : List ℕ) : Type 0 where
@@ -34,7 +34,7 @@ tail s n b bs f = record {
 }
 
 -- up to a separator
-pub cut-next : (s : ℕ) (last : List (List ℕ)) (n : ℕ) (bs : List ℕ) → Front s n bs → n < length bs → cut s last bs ≡ take n bs ∷ cut s last (drop (suc n) bs)
+pub cut-next : (s : ℕ) (last : List (List ℕ)) (n : ℕ) (bs : List ℕ) → Front s n bs → n < length bs → cut-at s last bs ≡ take n bs ∷ cut-at s last (drop (suc n) bs)
 cut-next s last n [] f l = absurd (omega arith)
 cut-next s last zero (b ∷ bs) f l = let e : eqb b s ≡ true = grind (arith, tells, f .found l) in rw e
 cut-next s last (suc n) (b ∷ bs) f l =
@@ -43,7 +43,7 @@ cut-next s last (suc n) (b ∷ bs) f l =
     rw (e, r)
 
 -- up to the end
-pub cut-last : (s n : ℕ) (bs : List ℕ) → Front s n bs → length bs ≤ n → cut s ([] ∷ []) bs ≡ bs ∷ []
+pub cut-last : (s n : ℕ) (bs : List ℕ) → Front s n bs → length bs ≤ n → cut-at s ([] ∷ []) bs ≡ bs ∷ []
 cut-last s n [] f l = refl
 cut-last s zero (b ∷ bs) f l = absurd (omega arith)
 cut-last s (suc n) (b ∷ bs) f l =
@@ -52,7 +52,7 @@ cut-last s (suc n) (b ∷ bs) f l =
     rw (e, r)
 
 -- the same where a last separator opens no piece
-pub cut-ended : (s n : ℕ) (bs : List ℕ) → Front s n bs → length bs ≤ n → 0 < length bs → cut s [] bs ≡ bs ∷ []
+pub cut-ended : (s n : ℕ) (bs : List ℕ) → Front s n bs → length bs ≤ n → 0 < length bs → cut-at s [] bs ≡ bs ∷ []
 cut-ended s n [] f l some = absurd (omega arith)
 cut-ended s zero (b ∷ bs) f l some = absurd (omega arith)
 cut-ended s (suc n) (b ∷ []) f l some = let e : eqb b s ≡ false = grind (arith, tells, f .before 0 (omega arith)) in rw e

@@ -18,10 +18,10 @@ use Rattle.grammar.specs.declared.grounds.Ground.the-variants.{TextTooLong, Li
 use Rattle.grammar.specs.declared.marks.Kind.{Kind}
 use Rattle.grammar.specs.declared.marks.Kind.the-variants.{Equation, Fault, Offer, Comment}
 use Rattle.grammar.specs.Marks.{mark, kind-of, line-kind}
-use Rattle.grammar.specs.Objections.{Letter, NameByte, Name, Marked, Worded, Among, Unmarked, Miscounted, OddName, Stands}
-use Rattle.grammar.specs.Pieces.{cut}
+use Rattle.grammar.specs.Objections.{Letter, NameByte, Name, Marked, HasWords, OneOfWords, Unmarked, Miscounted, OddName, Applies}
+use Rattle.grammar.specs.Pieces.{cut-at}
 use Rattle.grammar.specs.Reading.{is-plain, odd-byte, unless, stands, takes, takes-by, words-with, words-by, line-words}
-use Rattle.grammar.specs.Words.{Word, word, placed, words-from, words-of, is-letter, is-name-byte, all-name-bytes, is-name, odd-name}
+use Rattle.grammar.specs.Words.{Word, word, with-places, words-from, words-of, is-letter, is-name-byte, all-name-bytes, is-name, odd-name}
 
 -- o is the leftmost number of which P holds, if there is one
 abbrev pub Leftmost : Option ℕ → (ℕ → Type 0) → Type 0
@@ -134,7 +134,7 @@ unmarked line e kind m = let k = kind-from-mark line kind m in let y : _≡_ {A 
 other-mark : (line : List ℕ) (a b : Kind) → line-kind line ≡ Some a → Marked line b → a ≡ b
 other-mark line a b e m = let k = kind-from-mark line b m in cc
 
-worded-not-comment : (line : List ℕ) → line-kind line ≡ Some Comment → Worded line → ⊥
+worded-not-comment : (line : List ℕ) → line-kind line ≡ Some Comment → HasWords line → ⊥
 worded-not-comment line e w =
     ⊎-elim
     (λ m. let k = kind-from-mark line Equation m in let y : _≡_ {A = ℕ} 0 1 = cc in omega arith)
@@ -143,13 +143,13 @@ worded-not-comment line e w =
     (λ m. let k = kind-from-mark line Offer m in let y : _≡_ {A = ℕ} 0 1 = cc in omega arith))
     w
 
-worded-marked : (line : List ℕ) → line-kind line ≡ None → Worded line → ⊥
+worded-marked : (line : List ℕ) → line-kind line ≡ None → HasWords line → ⊥
 worded-marked line e w = ⊎-elim (unmarked line e Equation) (⊎-elim (unmarked line e Fault) (unmarked line e Offer)) w
 
 abbrev marked? : List ℕ → Bool
 marked? line = cond (eqb (length line) 0) true (isSome (line-kind line))
 
-no-mark : (line : List ℕ) → Leftmost (unless (marked? line)) (Stands line NoMark)
+no-mark : (line : List ℕ) → Leftmost (unless (marked? line)) (Applies line NoMark)
 no-mark line = unless-leftmost (marked? line) (Unmarked line) (never (sort line)) (then (sort line))
   where
     never : Sort line → marked? line ≡ true → Unmarked line → ⊥
@@ -167,19 +167,19 @@ abbrev Rising : ℕ → List Word → Type 0
 Rising n [] = Unit {0}
 Rising n (w ∷ ws) = (n ≤ w .start) × Rising (w .start) ws
 
-rising-least : (n : ℕ) (ws : List Word) → Rising n ws → (w : Word) → Among w ws → n ≤ w .start
+rising-least : (n : ℕ) (ws : List Word) → Rising n ws → (w : Word) → OneOfWords w ws → n ≤ w .start
 rising-least n [] r w (i, l, e) = absurd (omega arith)
 rising-least n (v ∷ ws) r w (zero, l, e) = omega (arith, r .0, ap (λ x. x .start) e)
 rising-least n (v ∷ ws) r w (suc i, l, e) = omega (arith, r .0, rising-least (v .start) ws (r .1) w (i, omega arith, e))
 
-placed-rising : (n k : ℕ) (ps : List (List ℕ)) → n ≤ k → Rising n (placed k ps)
+placed-rising : (n k : ℕ) (ps : List (List ℕ)) → n ≤ k → Rising n (with-places k ps)
 placed-rising n k [] h = tt
 placed-rising n k (p ∷ ps) h = (h, placed-rising k (k + length p + 1) ps (omega arith))
 
 words-rising : (line : List ℕ) → Rising 0 (words-of line)
 words-rising line =
     ⊎-elim
-    (λ t. rw (t .0) (⊎-elim (λ u. rw (u .0) (placed-rising 0 3 (cut 32 ([] ∷ []) (drop 2 line)) (omega arith))) (λ u. rw (u .0) tt) (leb-tells 2 (length line))))
+    (λ t. rw (t .0) (⊎-elim (λ u. rw (u .0) (placed-rising 0 3 (cut-at 32 ([] ∷ []) (drop 2 line)) (omega arith))) (λ u. rw (u .0) tt) (leb-tells 2 (length line))))
     (λ t. rw (t .0) tt)
     (leb-tells 3 (length line))
 
@@ -202,13 +202,13 @@ odd-names n (w ∷ ws) r = by (odd-names (w .start) ws (r .1)) (is-name (w .byte
           λ j p. omega (arith, p .2, rising-least (w .start) (w ∷ ws) (omega arith, r .1) (p .0) (p .1)),
         )
 
-not-a-name : (line : List ℕ) → Leftmost (odd-name (line-words line)) (Stands line NotAName)
+not-a-name : (line : List ℕ) → Leftmost (odd-name (line-words line)) (Applies line NotAName)
 not-a-name line = by (sort line)
   where
-    worded : Worded line → Leftmost (odd-name (words-of line)) (Stands line NotAName)
-    worded m = leftmost-like (odd-name (words-of line)) (OddName (words-of line)) (Stands line NotAName) (λ k p. (m, p)) (λ k p. p .1) (odd-names 0 (words-of line) (words-rising line))
+    worded : HasWords line → Leftmost (odd-name (words-of line)) (Applies line NotAName)
+    worded m = leftmost-like (odd-name (words-of line)) (OddName (words-of line)) (Applies line NotAName) (λ k p. (m, p)) (λ k p. p .1) (odd-names 0 (words-of line) (words-rising line))
 
-    by : Sort line → Leftmost (odd-name (line-words line)) (Stands line NotAName)
+    by : Sort line → Leftmost (odd-name (line-words line)) (Applies line NotAName)
     by (of-none k) = rw k (λ j p. worded-marked line k (p .0))
     by (of-kind Equation k) = rw k (worded (inl (mark-from-kind line Equation k)))
     by (of-kind Fault k) = rw k (worded (inr (inl (mark-from-kind line Fault k))))
@@ -232,10 +232,10 @@ taken line kind k t (inr (inr (m, z))) =
 marked-miscounted : (line : List ℕ) → line-kind line ≡ None → Miscounted line → ⊥
 marked-miscounted line k m = ⊎-elim (λ p. unmarked line k Equation (p .0)) (⊎-elim (λ p. unmarked line k Fault (p .0)) (λ p. unmarked line k Offer (p .0))) m
 
-word-count : (line : List ℕ) → Leftmost (unless (takes-by (line-kind line) (length (line-words line)))) (Stands line WordCount)
+word-count : (line : List ℕ) → Leftmost (unless (takes-by (line-kind line) (length (line-words line)))) (Applies line WordCount)
 word-count line = by (sort line)
   where
-    by : Sort line → Leftmost (unless (takes-by (line-kind line) (length (line-words line)))) (Stands line WordCount)
+    by : Sort line → Leftmost (unless (takes-by (line-kind line) (length (line-words line)))) (Applies line WordCount)
     by (of-none k) = rw k (λ j p. marked-miscounted line k (p .0))
     by (of-kind Equation k) =
         rw k (unless-leftmost (ltb 0 (length (words-of line))) (Miscounted line) (taken line Equation k) (λ t. inl (mark-from-kind line Equation k, grind (arith, tells, leb-tells 1 (length (words-of line))))))
@@ -245,15 +245,15 @@ word-count line = by (sort line)
         rw k (unless-leftmost (eqb (length (words-of line)) 1) (Miscounted line) (taken line Offer k) (λ t. inr (inr (mark-from-kind line Offer k, λ e. grind (arith, tells, eqb-tells (length (words-of line)) 1)))))
     by (of-kind Comment k) = rw k (λ j p. taken line Comment k refl (p .0))
 
-too-long : (line : List ℕ) → Leftmost (unless (leb (length line) 240)) (Stands line LineTooLong)
+too-long : (line : List ℕ) → Leftmost (unless (leb (length line) 240)) (Applies line LineTooLong)
 too-long line = unless-leftmost (leb (length line) 240) (240 < length line) (λ t l. grind (arith, tells, leb-tells (length line) 240)) (λ t. grind (arith, tells, leb-tells (length line) 240))
 
-odd-bytes-of : (line : List ℕ) → Leftmost (odd-byte 1 line) (Stands line ByteOutside)
+odd-bytes-of : (line : List ℕ) → Leftmost (odd-byte 1 line) (Applies line ByteOutside)
 odd-bytes-of line =
-    leftmost-like (odd-byte 1 line) (OddByte 0 line) (Stands line ByteOutside) (λ k p. (p .0, omega (arith, p .1), p .2, p .3)) (λ k p. (p .0, omega (arith, p .1), p .2, p .3)) (odd-bytes 0 line)
+    leftmost-like (odd-byte 1 line) (OddByte 0 line) (Applies line ByteOutside) (λ k p. (p .0, omega (arith, p .1), p .2, p .3)) (λ k p. (p .0, omega (arith, p .1), p .2, p .3)) (odd-bytes 0 line)
 
 -- each ground stands where its definition says, in words
-pub each-ground : (line : List ℕ) (g : Ground) → Leftmost (stands line g) (Stands line g)
+pub each-ground : (line : List ℕ) (g : Ground) → Leftmost (stands line g) (Applies line g)
 each-ground line TextTooLong = λ k p. p
 each-ground line LineTooLong = too-long line
 each-ground line ByteOutside = odd-bytes-of line

@@ -11,7 +11,7 @@ use Rattle.std.proofs.shelf.Lists.{nil-from-length, at-drop-more, at-drop-all}
 use Rattle.grammar.specs.declared.grounds.Ground.the-variants.{LineTooLong, ByteOutside, NoMark, NotAName, WordCount}
 use Rattle.grammar.specs.declared.marks.Kind.{Kind}
 use Rattle.grammar.specs.Marks.{line-kind}
-use Rattle.grammar.specs.Reading.{is-plain, odd-byte, stands, line-words, reading}
+use Rattle.grammar.specs.Reading.{is-plain, odd-byte, stands, line-words, line-reading}
 use Rattle.grammar.specs.Refusals.{fault}
 use Rattle.grammar.specs.Words.{Word}
 
@@ -33,32 +33,32 @@ short-unmarked (a ∷ (b ∷ bs)) short = absurd (omega arith)
 
 -- ---- what the checks so far say of the whole
 
-pub long-reads : (line : List ℕ) (k : ℕ) → stands line LineTooLong ≡ Some k → Err (fault LineTooLong k) ≡ reading line
-unfolding reading
+pub long-reads : (line : List ℕ) (k : ℕ) → stands line LineTooLong ≡ Some k → Err (fault LineTooLong k) ≡ line-reading line
+unfolding line-reading
 long-reads line k h = rw h
 
-pub odd-reads : (line : List ℕ) (k : ℕ) → stands line LineTooLong ≡ None → stands line ByteOutside ≡ Some k → Err (fault ByteOutside k) ≡ reading line
-unfolding reading
+pub odd-reads : (line : List ℕ) (k : ℕ) → stands line LineTooLong ≡ None → stands line ByteOutside ≡ Some k → Err (fault ByteOutside k) ≡ line-reading line
+unfolding line-reading
 odd-reads line k short h = rw (short, h)
 
 module _ (line : List ℕ) (short : stands line LineTooLong ≡ None) (plain : stands line ByteOutside ≡ None) where
-  pub empty-reads : length line ≡ 0 → Ok None ≡ reading line
-  unfolding reading
+  pub empty-reads : length line ≡ 0 → Ok None ≡ line-reading line
+  unfolding line-reading
   empty-reads e = let n = nil-from-length line e in rw n
 
-  pub unmarked-reads : (k : ℕ) → stands line NoMark ≡ Some k → Err (fault NoMark k) ≡ reading line
-  unfolding reading
+  pub unmarked-reads : (k : ℕ) → stands line NoMark ≡ Some k → Err (fault NoMark k) ≡ line-reading line
+  unfolding line-reading
   unmarked-reads k h = rw (short, plain, h)
 
-  pub unnamed-reads : (k : ℕ) → stands line NoMark ≡ None → stands line NotAName ≡ Some k → Err (fault NotAName k) ≡ reading line
-  unfolding reading
+  pub unnamed-reads : (k : ℕ) → stands line NoMark ≡ None → stands line NotAName ≡ Some k → Err (fault NotAName k) ≡ line-reading line
+  unfolding line-reading
   unnamed-reads k m h = rw (short, plain, m, h)
 
-  pub miscounted-reads : (k : ℕ) → stands line NoMark ≡ None → stands line NotAName ≡ None → stands line WordCount ≡ Some k → Err (fault WordCount k) ≡ reading line
-  unfolding reading
+  pub miscounted-reads : (k : ℕ) → stands line NoMark ≡ None → stands line NotAName ≡ None → stands line WordCount ≡ Some k → Err (fault WordCount k) ≡ line-reading line
+  unfolding line-reading
   miscounted-reads k m n h = rw (short, plain, m, n, h)
 
   pub accepted-reads : (kind : Kind) (ws : List Word) → ws ≡ line-words line → line-kind line ≡ Some kind → stands line NoMark ≡ None → stands line NotAName ≡ None → stands line WordCount ≡ None →
-      Ok (Some (record { kind = kind; words = ws })) ≡ reading line
-  unfolding reading
+      Ok (Some (record { kind = kind; words = ws })) ≡ line-reading line
+  unfolding line-reading
   accepted-reads kind ws e k m n h = rw (e, short, plain, m, n, h, k)

@@ -40,11 +40,11 @@ abbrev pub Marked : List ℕ → Kind → Type 0
 Marked line kind = (rest : List ℕ) × (line ≡ mark kind ∷ (58 ∷ rest))
 
 -- the line has a mark whose lines are split into words
-abbrev pub Worded : List ℕ → Type 0
-Worded line = Marked line Equation ⊎ (Marked line Fault ⊎ Marked line Offer)
+abbrev pub HasWords : List ℕ → Type 0
+HasWords line = Marked line Equation ⊎ (Marked line Fault ⊎ Marked line Offer)
 
-abbrev pub Among : Word → List Word → Type 0
-Among w ws = (i : ℕ) × (i < length ws) × (getD ws i w ≡ w)
+abbrev pub OneOfWords : Word → List Word → Type 0
+OneOfWords w ws = (i : ℕ) × (i < length ws) × (getD ws i w ≡ w)
 
 -- the line has a byte, and none of the marks in front
 abbrev pub Unmarked : List ℕ → Type 0
@@ -58,26 +58,26 @@ Miscounted line =
 
 -- a word of the list that begins at a byte is no name
 abbrev pub OddName : List Word → ℕ → Type 0
-OddName ws k = (w : Word) × Among w ws × (w .start ≡ k) × (Name (w .bytes) → ⊥)
+OddName ws k = (w : Word) × OneOfWords w ws × (w .start ≡ k) × (Name (w .bytes) → ⊥)
 
 -- a ground stands against a line at a byte, or at 0 where no byte is at fault
-abbrev pub Stands : List ℕ → Ground → ℕ → Type 0
-Stands line TextTooLong k = ⊥
-Stands line LineTooLong k = (240 < length line) × (k ≡ 0)
-Stands line ByteOutside k = (i : ℕ) × (k ≡ i + 1) × (i < length line) × ((getD line i 0 < 32) ⊎ (126 < getD line i 0))
-Stands line NoMark k = Unmarked line × (k ≡ 0)
-Stands line NotAName k = Worded line × OddName (words-of line) k
-Stands line WordCount k = Miscounted line × (k ≡ 0)
-Stands line NameTaken k = ⊥
-Stands line NotFound k = ⊥
-Stands line ModelFull k = ⊥
-Stands line SourceFull k = ⊥
-Stands line NoSuchNumber k = ⊥
-Stands line NoSuchGoal k = ⊥
-Stands line OfferNotOpen k = ⊥
-Stands line PageTooShort k = ⊥
-Stands line AreaTooShort k = ⊥
-Stands line GoalNotMet k = ⊥
+abbrev pub Applies : List ℕ → Ground → ℕ → Type 0
+Applies line TextTooLong k = ⊥
+Applies line LineTooLong k = (240 < length line) × (k ≡ 0)
+Applies line ByteOutside k = (i : ℕ) × (k ≡ i + 1) × (i < length line) × ((getD line i 0 < 32) ⊎ (126 < getD line i 0))
+Applies line NoMark k = Unmarked line × (k ≡ 0)
+Applies line NotAName k = HasWords line × OddName (words-of line) k
+Applies line WordCount k = Miscounted line × (k ≡ 0)
+Applies line NameTaken k = ⊥
+Applies line NotFound k = ⊥
+Applies line ModelFull k = ⊥
+Applies line SourceFull k = ⊥
+Applies line NoSuchNumber k = ⊥
+Applies line NoSuchGoal k = ⊥
+Applies line OfferNotOpen k = ⊥
+Applies line PageTooShort k = ⊥
+Applies line AreaTooShort k = ⊥
+Applies line GoalNotMet k = ⊥
 
 -- the pieces, one space between each two
 abbrev pub spaced : List (List ℕ) → List ℕ
@@ -97,8 +97,8 @@ pub record SplitAtSpaces (line : List ℕ) (ws : List Word) : Type 0 where
 abbrev pub Enters : List ℕ → Option Entry → Type 0
 Enters line o =
     BySome o (line ≡ [])
-    (λ e. Marked line (e .kind) × (Worded line → e .words ≡ words-of line) × (Marked line Comment → e .words ≡ []) × All (λ w. Name (w .bytes)) (e .words))
+    (λ e. Marked line (e .kind) × (HasWords line → e .words ≡ words-of line) × (Marked line Comment → e .words ≡ []) × All (λ w. Name (w .bytes)) (e .words))
 
 -- A line is accepted where no ground stands, and refused on the first that stands.
 abbrev pub ByGrounds : List ℕ → Result (Option Entry) LineFault → Type 0
-ByGrounds line r = Cases r (λ o. ((g : Ground) (k : ℕ) → Stands line g k → ⊥) × Enters line o) (FirstInOrder (Stands line) checking-order)
+ByGrounds line r = Cases r (λ o. ((g : Ground) (k : ℕ) → Applies line g k → ⊥) × Enters line o) (FirstInOrder (Applies line) checking-order)

@@ -88,5 +88,5 @@ answer (Some f) x = Err f
 answer None x = Ok x
 
 -- the first ground in the checking order that stands, or else what the line enters: nothing, where it is empty
-unfoldable pub reading : List ℕ → Result (Option Entry) LineFault
-reading line = answer (first-fault (stands line) checking-order) (entry line)
+unfoldable pub line-reading : List ℕ → Result (Option Entry) LineFault
+line-reading line = answer (first-fault (stands line) checking-order) (entry line)

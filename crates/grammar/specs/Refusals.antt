@@ -10,23 +10,23 @@ use Rattle.grammar.specs.declared.grounds.Ground.the-variants.{TextTooLong, Li
 use Rattle.grammar.specs.declared.grounds.LineFault.{LineFault}
 
 -- the number that a user is shown
-abbrev pub number : Ground → ℕ
-number TextTooLong = 1
-number LineTooLong = 2
-number ByteOutside = 3
-number NoMark = 4
-number NotAName = 5
-number WordCount = 6
-number NameTaken = 7
-number NotFound = 8
-number ModelFull = 9
-number SourceFull = 10
-number NoSuchNumber = 11
-number NoSuchGoal = 12
-number OfferNotOpen = 13
-number PageTooShort = 14
-number AreaTooShort = 15
-number GoalNotMet = 16
+abbrev pub ground-number : Ground → ℕ
+ground-number TextTooLong = 1
+ground-number LineTooLong = 2
+ground-number ByteOutside = 3
+ground-number NoMark = 4
+ground-number NotAName = 5
+ground-number WordCount = 6
+ground-number NameTaken = 7
+ground-number NotFound = 8
+ground-number ModelFull = 9
+ground-number SourceFull = 10
+ground-number NoSuchNumber = 11
+ground-number NoSuchGoal = 12
+ground-number OfferNotOpen = 13
+ground-number PageTooShort = 14
+ground-number AreaTooShort = 15
+ground-number GoalNotMet = 16
 
 -- The order in which grounds are checked: the first of them that applies is the one reported.
 abbrev pub checking-order : List Ground
@@ -47,10 +47,10 @@ first-fault stands (g ∷ gs) = else-after g (stands g) (first-fault stands gs)
 
 -- The law of an order of grounds, where `Stands g k` says that ground g stands at byte k: the fault's ground stands at its
 -- byte and at none before it, and no ground stands that is checked earlier.
-pub record FirstInOrder (Stands : Ground → ℕ → Type 0) (order : List Ground) (f : LineFault) : Type 0 where
+pub record FirstInOrder (Applies : Ground → ℕ → Type 0) (order : List Ground) (f : LineFault) : Type 0 where
   pub earlier : List Ground
   pub later : List Ground
   pub whole : order ≡ earlier ++ f .ground ∷ later
-  pub quiet : All (λ g. (k : ℕ) → Stands g k → ⊥) earlier
-  pub stands : Stands (f .ground) (f .byte)
-  pub leftmost : (k : ℕ) → Stands (f .ground) k → f .byte ≤ k
+  pub quiet : All (λ g. (k : ℕ) → Applies g k → ⊥) earlier
+  pub stands : Applies (f .ground) (f .byte)
+  pub leftmost : (k : ℕ) → Applies (f .ground) k → f .byte ≤ k

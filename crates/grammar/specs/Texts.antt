@@ -8,11 +8,11 @@ use lib.ListN.{length, drop}
 use Rattle.std.specs.Holes.{between}
 use Rattle.std.specs.Options.{Cases as BySome}
 use Rattle.std.specs.declared.option.Option.{Option}
-use Rattle.grammar.specs.Pieces.{cut}
+use Rattle.grammar.specs.Pieces.{cut-at}
 
 -- a line runs up to the next byte 10 or the end of the text; behind a last byte 10 there is none
 abbrev pub lines : List ℕ → List (List ℕ)
-lines text = cut 10 [] text
+lines text = cut-at 10 [] text
 
 abbrev pub lines-from : List ℕ → ℕ → List (List ℕ)
 lines-from text from = lines (drop from text)

@@ -6,7 +6,7 @@ use lib.Dec.{eqb, leb, ltb}
 use lib.ListN.{length, drop}
 use Rattle.std.specs.declared.option.Option.{Option}
 use Rattle.std.specs.declared.option.Option.the-variants.{Some, None}
-use Rattle.grammar.specs.Pieces.{cut}
+use Rattle.grammar.specs.Pieces.{cut-at}
 
 -- a word, with the number of its first byte in the line, from 1
 pub record Word : Type 0 where
@@ -17,13 +17,13 @@ abbrev pub word : ℕ → List ℕ → Word
 word k bs = record { start = k; bytes = bs }
 
 -- pieces that stand one after the other with one byte between them, the first at k
-abbrev pub placed : ℕ → List (List ℕ) → List Word
-placed k [] = []
-placed k (p ∷ ps) = word k p ∷ placed (k + length p + 1) ps
+abbrev pub with-places : ℕ → List (List ℕ) → List Word
+with-places k [] = []
+with-places k (p ∷ ps) = word k p ∷ with-places (k + length p + 1) ps
 
 -- the pieces from an index on, cut wherever a space stands; behind the end of the line there is no word
 abbrev pub words-from : List ℕ → ℕ → List Word
-words-from line from = cond (leb from (length line)) (placed (from + 1) (cut 32 ([] ∷ []) (drop from line))) []
+words-from line from = cond (leb from (length line)) (with-places (from + 1) (cut-at 32 ([] ∷ []) (drop from line))) []
 
 -- the words behind the mark: none if the line ends there
 abbrev pub words-of : List ℕ → List Word

@@ -16,7 +16,7 @@ use Rattle.grammar.specs.declared.grounds.LineFault.{LineFault}
 use Rattle.grammar.specs.declared.marks.Kind.{Kind}
 use Rattle.line.specs.declared.places.Places.{Places}
 use Rattle.grammar.specs.Marks.{line-kind}
-use Rattle.grammar.specs.Reading.{stands, takes, takes-by, unless, line-words, reading}
+use Rattle.grammar.specs.Reading.{stands, takes, takes-by, unless, line-words, line-reading}
 use Rattle.grammar.specs.Objections.{ByGrounds}
 use Rattle.grammar.proofs.Bounds.{byte-bound}
 use Rattle.grammar.proofs.Cuts.{words-split}
@@ -34,7 +34,7 @@ count-stands line ps kind b words k right =
     ap (λ m. unless (takes-by (line-kind line) m)) n ∙ ap (λ o. unless (takes-by o (ps .len))) k ∙ ap unless right
 
 -- the defined answer has every law
-pub reads-line : (line : List ℕ) (r : Result (Option Record) LineFault) → told line r ≡ reading line → ReadsLine line r
+pub reads-line : (line : List ℕ) (r : Result (Option Record) LineFault) → told line r ≡ line-reading line → ReadsLine line r
 reads-line line r v = record {
   value = v;
   grounds = subst (ByGrounds line) (sym v) (by-grounds line);
@@ -43,5 +43,5 @@ reads-line line r v = record {
 }
 
 -- the fault of a check, passed on
-pub refused-line : (line : List ℕ) (r : Result (Option Record) LineFault) (f : LineFault) → ((x : LineFault) × (r ≡ Err x) × (x ≡ f)) → Err f ≡ reading line → ReadsLine line r
+pub refused-line : (line : List ℕ) (r : Result (Option Record) LineFault) (f : LineFault) → ((x : LineFault) × (r ≡ Err x) × (x ≡ f)) → Err f ≡ line-reading line → ReadsLine line r
 refused-line line r f p v = reads-line line r (ap (told line) (p .1 ∙ ap Err (p .2)) ∙ v)

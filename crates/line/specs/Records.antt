@@ -15,7 +15,7 @@ use Rattle.std.specs.declared.result.Result.the-variants.{Ok, Err}
 use Rattle.grammar.specs.declared.grounds.Ground.{Ground}
 use Rattle.grammar.specs.declared.grounds.LineFault.{LineFault}
 use Rattle.grammar.specs.Objections.{ByGrounds, SplitAtSpaces}
-use Rattle.grammar.specs.Reading.{Entry, stands, reading}
+use Rattle.grammar.specs.Reading.{Entry, stands, line-reading}
 use Rattle.grammar.specs.Refusals.{fault}
 use Rattle.grammar.specs.Words.{Word, word, words-of}
 use Rattle.line.specs.declared.places.Place.{Place}
@@ -28,11 +28,11 @@ word-in line p = word (p .start + 1) (between (p .start) (p .end) line)
 abbrev pub words-in : List ℕ → Places → List Word
 words-in line ps = map (word-in line) (take (ps .len) (ps .all))
 
-abbrev pub entered : List ℕ → Record → Entry
-entered line r = record { kind = r .kind; words = words-in line (r .words) }
+abbrev pub entry-of : List ℕ → Record → Entry
+entry-of line r = record { kind = r .kind; words = words-in line (r .words) }
 
 abbrev pub told : List ℕ → Result (Option Record) LineFault → Result (Option Entry) LineFault
-told line (Ok o) = Ok (mapped (entered line) o)
+told line (Ok o) = Ok (mapped (entry-of line) o)
 told line (Err f) = Err f
 
 -- the answer of a call that checks one ground and gives what P says of it
@@ -49,10 +49,10 @@ ChecksTwo line g h P r =
 -- What reading a line promises of its answer: exactly what is defined, and so the laws of grounds and words.
 pub record ReadsLine (line : List ℕ) (r : Result (Option Record) LineFault) : Type 0 where
   -- the record or the fault is the defined one
-  pub value : told line r ≡ reading line
+  pub value : told line r ≡ line-reading line
   -- accepted where no ground stands, else refused on the first in the checking order at its leftmost place
   pub grounds : ByGrounds line (told line r)
   -- a byte is at most one past the longest line
   pub bound : refused (told line r) (λ f. f .byte ≤ 241)
-  -- the words are what follows the mark, split at every space
+  -- the words are the rest of the line behind its mark, cut wherever a space stands
   pub words : SplitAtSpaces line (words-of line)

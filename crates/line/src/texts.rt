@@ -48,7 +48,7 @@ impl<'a> Lines<'a> {
     /// All lines of a text.
     pub fn of(text: &'a [u8]) -> Lines<'a>
         ensures left { λ r. ⌜ (now (r .text) ≡ now (text .entry)) × (r .from ≡ 0) ⌝ }
-        ensures cut { λ _. ⌜ CutIntoLines (now (text .entry)) (lines (now (text .entry))) ⌝ }
+        ensures splits { λ _. ⌜ CutIntoLines (now (text .entry)) (lines (now (text .entry))) ⌝ }
     {
         Lines { text, from: 0 }
     }

@@ -8,7 +8,7 @@ use lib.Seq.{drop-drop}
 use Rattle.std.proofs.shelf.Lists.{take-at, drop-at, take-all}
 use Rattle.std.specs.Written.{decimal}
 use Rattle.grammar.specs.declared.grounds.Refusal.{Refusal}
-use Rattle.grammar.specs.Refusals.{number}
+use Rattle.grammar.specs.Refusals.{ground-number}
 use Rattle.report.specs.Lines.{x-line, overwritten}
 
 -- so far the bytes t stand at the front of an area that held xs, and the next index is i
@@ -36,7 +36,7 @@ piece-on t xs bs i j area after f put on =
 abbrev pub parted : List ℕ → List ℕ → List ℕ → List ℕ
 parted a b c = (88 ∷ 58 ∷ []) ++ (a ++ (32 ∷ (b ++ (32 ∷ (c ++ (10 ∷ []))))))
 
-pub x-line-parts : (r : Refusal) (a b c : List ℕ) → a ≡ decimal (number (r .ground)) → b ≡ decimal (r .line) → c ≡ decimal (r .byte) → parted a b c ≡ x-line r
+pub x-line-parts : (r : Refusal) (a b c : List ℕ) → a ≡ decimal (ground-number (r .ground)) → b ≡ decimal (r .line) → c ≡ decimal (r .byte) → parted a b c ≡ x-line r
 x-line-parts r a b c ea eb ec = rw (ea, eb, ec)
 
 pub parted-length : (a b c : List ℕ) → length (parted a b c) ≡ length a + length b + length c + 5

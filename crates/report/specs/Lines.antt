@@ -8,11 +8,11 @@ use Rattle.std.specs.Written.{decimal}
 use Rattle.std.specs.declared.result.Result.{Result}
 use Rattle.grammar.specs.declared.grounds.Ground.the-variants.{AreaTooShort}
 use Rattle.grammar.specs.declared.grounds.Refusal.{Refusal}
-use Rattle.grammar.specs.Refusals.{number}
+use Rattle.grammar.specs.Refusals.{ground-number}
 
 -- `X:`, the ground's number, the line and the byte, one space between each two, and byte 10
 abbrev pub x-line : Refusal → List ℕ
-x-line r = (88 ∷ 58 ∷ []) ++ (decimal (number (r .ground)) ++ (32 ∷ (decimal (r .line) ++ (32 ∷ (decimal (r .byte) ++ (10 ∷ []))))))
+x-line r = (88 ∷ 58 ∷ []) ++ (decimal (ground-number (r .ground)) ++ (32 ∷ (decimal (r .line) ++ (32 ∷ (decimal (r .byte) ++ (10 ∷ []))))))
 
 -- the area with bytes put over those from an index on
 abbrev pub overwritten : ℕ → List ℕ → List ℕ → List ℕ

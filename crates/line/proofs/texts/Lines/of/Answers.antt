@@ -3,4 +3,4 @@ use Rattle.grammar.proofs.Cuts.{text-cut}
 use Rattle.line.proofs.texts.Lines.of.Needs as need
 
 pub returns : need.returns
-returns c = record { left = search needs; cut = text-cut (c .args .text .now) }
+returns c = record { left = search needs; splits = text-cut (c .args .text .now) }
