@@ -2,7 +2,7 @@
 use Prim.Native.Nat.{ℕ, suc, _+_, _≤_, _<_}
 use mathlib.Core.Path.{_≡_, refl, sym, ap, subst, _∙_}
 use mathlib.Core.Bool.{Bool, true, false, cond}
-use mathlib.Core.Logic.{_⊎_, inl, inr, ⊎-elim}
+use mathlib.Core.Logic.{inr}
 use mathlib.Core.List.{List, [], _∷_, _++_, append-assoc, append-nil}
 use native.Mathlib.Omega.{arith}
 use lib.Dec.{eqb, leb}
@@ -15,20 +15,19 @@ use Rattle.std.specs.declared.option.Option.the-variants.{Some, None}
 use Rattle.std.specs.declared.result.Result.{Result}
 use Rattle.std.specs.declared.result.Result.the-variants.{Ok, Err}
 use Rattle.std.specs.shelf.Lists.{All}
-use Rattle.std.proofs.shelf.Ways.{leb-tells, eqb-tells}
+use Rattle.std.proofs.shelf.Ways.{leb-tells}
 use Rattle.grammar.specs.declared.grounds.LineFault.{LineFault}
 use Rattle.grammar.specs.declared.grounds.Refusal.{Refusal}
 use Rattle.grammar.specs.declared.marks.Kind.{Kind}
 use Rattle.grammar.specs.declared.marks.Kind.the-variants.{Equation, Fault, Offer, Comment}
 use Rattle.grammar.specs.Marks.{mark, line-kind}
-use Rattle.grammar.specs.declared.grounds.Ground.the-variants.{TextTooLong}
 use Rattle.grammar.specs.Reading.{Entry, line-words, line-reading}
 use Rattle.grammar.specs.Texts.{lines, lines-from, FirstLine}
 use Rattle.grammar.proofs.Order.{read-entry}
 use Rattle.line.specs.declared.records.Record.{Record}
 use Rattle.line.specs.Records.{entry-of, told}
 use Rattle.account.specs.declared.accounts.Account.{Account}
-use Rattle.account.specs.Checking.{mark-by, marked, counts, in-line, or-refused, first-refused, account-or, account, FirstRefused, CheckedText}
+use Rattle.account.specs.Checking.{mark-by, marked, counts, in-line, or-refused, first-refused, account-or, account, CheckedText}
 use Rattle.account.specs.Noting.{kind-by, CountsLines, FewerThan, Noted}
 
 abbrev Reads : List ℕ → Type 0

@@ -8,12 +8,8 @@ use line::records::Record;
 use line::texts::Lines;
 use line::texts::LinesIterator;
 use line::texts::text_fits;
-ghost use Prim.Native.Nat.{_+_, _<_, _≤_, _^_};
+ghost use Prim.Native.Nat.{_+_, _<_, _≤_};
 ghost use mathlib.Core.Path.{_≡_};
-ghost use mathlib.Core.Bool.{cond};
-ghost use lib.Dec.{eqb};
-ghost use Rattle.grammar.specs.Marks.{mark};
-ghost use Rattle.grammar.specs.declared.marks.Kind.the-variants.{Equation, Fault, Offer, Comment};
 ghost use Rattle.account.specs.Checking.{account, in-line, CheckedText};
 ghost use Rattle.account.specs.Noting.{kind-by, FewerThan, Noted};
 

@@ -1,6 +1,6 @@
 -- How far a refused line's byte can lie. Assumes nothing.
-use Prim.Native.Nat.{ℕ, _+_, _≤_, _<_}
-use mathlib.Core.Path.{_≡_, refl, sym, ap, subst, _∙_}
+use Prim.Native.Nat.{ℕ, _+_, _≤_}
+use mathlib.Core.Path.{ap}
 use mathlib.Core.Bool.{Bool, true, false, cond}
 use mathlib.Core.Logic.{_⊎_, ⊎-elim}
 use mathlib.Core.List.{List, [], _∷_}
@@ -20,9 +20,9 @@ use Rattle.grammar.specs.declared.marks.Kind.the-variants.{Equation, Fault, Of
 use Rattle.grammar.specs.Marks.{line-kind}
 use Rattle.grammar.specs.Objections.{spaced}
 use Rattle.grammar.specs.Pieces.{cut-at}
-use Rattle.grammar.specs.Reading.{is-plain, odd-byte, unless, words-by, line-words, takes-by, stands, entry, answer, line-reading}
+use Rattle.grammar.specs.Reading.{is-plain, odd-byte, unless, words-by, stands, entry, answer, line-reading}
 use Rattle.grammar.specs.Refusals.{checking-order, else-after, first-fault}
-use Rattle.grammar.specs.Words.{Word, with-places, words-of, is-name, odd-name}
+use Rattle.grammar.specs.Words.{with-places, words-of, is-name, odd-name}
 use Rattle.grammar.proofs.Cuts.{spaced-cut}
 
 -- a place that is at most n, if there is one

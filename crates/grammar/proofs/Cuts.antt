@@ -1,12 +1,12 @@
 -- The laws of cutting at a separator: words and lines. Assumes nothing.
-use Prim.Native.Nat.{ℕ, suc, _+_, _-_, _≤_, _<_}
-use mathlib.Core.Path.{_≡_, refl, sym, ap, subst, _∙_}
-use mathlib.Core.Bool.{Bool, true, false, cond}
+use Prim.Native.Nat.{ℕ, _+_, _-_, _≤_, _<_}
+use mathlib.Core.Path.{_≡_, refl, sym, ap, _∙_}
+use mathlib.Core.Bool.{true, false}
 use mathlib.Core.Logic.{_≢_, _⊎_, ⊎-elim}
 use mathlib.Core.List.{List, [], _∷_, _++_, map, append-nil, append-assoc}
 use native.Mathlib.Omega.{arith}
 use lib.Dec.{eqb, leb, ltb}
-use lib.ListN.{length, take, drop, length-drop}
+use lib.ListN.{length, drop, length-drop}
 use lib.Seq.{drop-drop}
 use Rattle.std.specs.Holes.{between}
 use Rattle.std.specs.shelf.Lists.{All}
@@ -15,7 +15,7 @@ use Rattle.std.proofs.shelf.Ways.{tells, eqb-tells, leb-tells}
 use Rattle.grammar.specs.Objections.{spaced, SplitAtSpaces}
 use Rattle.grammar.specs.Pieces.{onto-first, cut-at}
 use Rattle.grammar.specs.Texts.{lines, ended, CutIntoLines}
-use Rattle.grammar.specs.Words.{Word, word, with-places, words-from, words-of}
+use Rattle.grammar.specs.Words.{Word, word, with-places, words-of}
 
 -- no piece holds the separator
 abbrev Apart : ℕ → List (List ℕ) → Type 0

@@ -1,27 +1,22 @@
 -- The first ground in the checking order. Assumes nothing.
-use Prim.Native.Nat.{ℕ, _≤_, _<_}
+use Prim.Native.Nat.{ℕ}
 use mathlib.Core.Path.{_≡_, refl, sym, ap, subst, _∙_}
-use mathlib.Core.Bool.{Bool, true, false, cond}
-use mathlib.Core.List.{List, [], _∷_, _++_}
-use mathlib.Core.Logic.{_⊎_, inl, inr, ⊎-elim}
+use mathlib.Core.Bool.{Bool, true, false}
+use mathlib.Core.List.{List, [], _∷_}
+use mathlib.Core.Logic.{inl, inr}
 use native.Mathlib.Omega.{arith}
-use lib.Dec.{eqb}
-use lib.ListN.{length}
 use Rattle.std.specs.Options.{Cases as BySome, mapped}
 use Rattle.std.specs.declared.option.Option.{Option}
 use Rattle.std.specs.declared.option.Option.the-variants.{Some, None}
-use Rattle.std.specs.declared.result.Result.{Result}
-use Rattle.std.specs.declared.result.Result.the-variants.{Ok, Err}
+use Rattle.std.specs.declared.result.Result.the-variants.{Ok}
 use Rattle.std.specs.shelf.Lists.{All}
-use Rattle.std.proofs.shelf.Lists.{nil-from-length}
-use Rattle.std.proofs.shelf.Ways.{tells, eqb-tells}
 use Rattle.grammar.specs.declared.grounds.Ground.{Ground}
 use Rattle.grammar.specs.declared.grounds.Ground.the-variants.{TextTooLong, LineTooLong, ByteOutside, NoMark, NotAName, WordCount, NameTaken, NotFound, ModelFull, SourceFull, NoSuchNumber, NoSuchGoal, OfferNotOpen, PageTooShort, AreaTooShort, GoalNotMet}
 use Rattle.grammar.specs.declared.grounds.LineFault.{LineFault}
 use Rattle.grammar.specs.declared.marks.Kind.{Kind}
 use Rattle.grammar.specs.declared.marks.Kind.the-variants.{Equation, Fault, Offer, Comment}
 use Rattle.grammar.specs.Marks.{line-kind}
-use Rattle.grammar.specs.Objections.{Name, Marked, HasWords, Unmarked, Applies, Enters, ByGrounds}
+use Rattle.grammar.specs.Objections.{Name, Marked, HasWords, Applies, Enters, ByGrounds}
 use Rattle.grammar.specs.Reading.{Entry, stands, line-words, entry, answer, line-reading}
 use Rattle.grammar.specs.Refusals.{checking-order, else-after, first-fault, FirstInOrder}
 use Rattle.grammar.specs.Words.{Word, words-of, is-name, odd-name}

@@ -1,20 +1,19 @@
 -- One piece taken off the front of bytes that are cut at a separator. Assumes nothing.
 use Prim.Native.Nat.{ℕ, zero, suc, _+_, _-_, _≤_, _<_}
 use mathlib.Core.Path.{_≡_, refl, subst}
-use mathlib.Core.Bool.{Bool, true, false, cond}
+use mathlib.Core.Bool.{true, false}
 use mathlib.Core.List.{List, [], _∷_}
-use mathlib.Core.Logic.{_⊎_, inl, inr, ⊎-elim}
+use mathlib.Core.Logic.{_⊎_, ⊎-elim}
 use native.Mathlib.Omega.{arith}
-use native.Mathlib.Numerals.{add-one}
 use lib.Dec.{eqb, leb}
 use lib.ListN.{length, getD, take, drop, length-drop}
 use lib.Seq.{drop-drop, length-take-le}
 use Rattle.std.specs.Holes.{between}
 use Rattle.std.proofs.shelf.Lists.{take-all, take-rest, drop-all}
-use Rattle.std.proofs.shelf.Ways.{tells, eqb-tells, leb-tells}
-use Rattle.grammar.specs.Pieces.{onto-first, cut-at}
+use Rattle.std.proofs.shelf.Ways.{tells, leb-tells}
+use Rattle.grammar.specs.Pieces.{cut-at}
 use Rattle.grammar.specs.Texts.{lines-from}
-use Rattle.grammar.specs.Words.{word, with-places, words-from}
+use Rattle.grammar.specs.Words.{word, words-from}
 
 -- the first n of the bytes are no separator, and the next one is, unless they are all
 pub record Front (separator n : ℕ) (bs : List ℕ) : Type 0 where

@@ -2,8 +2,8 @@
 use Prim.Native.Nat.{ℕ, zero, suc, _+_, _≤_, _<_}
 use mathlib.Core.Path.{_≡_, refl, sym, ap, subst, _∙_}
 use mathlib.Core.Bool.{Bool, true, false, cond, _&&_, _||_}
-use mathlib.Core.Logic.{_≢_, _⊎_, inl, inr, ⊎-elim}
-use mathlib.Core.List.{List, [], _∷_, _++_}
+use mathlib.Core.Logic.{_⊎_, inl, inr, ⊎-elim}
+use mathlib.Core.List.{List, [], _∷_}
 use native.Mathlib.Omega.{arith}
 use lib.Dec.{eqb, leb, ltb}
 use lib.ListN.{length, getD, drop}
@@ -20,8 +20,8 @@ use Rattle.grammar.specs.declared.marks.Kind.the-variants.{Equation, Fault, Of
 use Rattle.grammar.specs.Marks.{mark, kind-of, line-kind}
 use Rattle.grammar.specs.Objections.{Letter, NameByte, Name, Marked, HasWords, OneOfWords, Unmarked, Miscounted, OddName, Applies}
 use Rattle.grammar.specs.Pieces.{cut-at}
-use Rattle.grammar.specs.Reading.{is-plain, odd-byte, unless, stands, takes, takes-by, words-with, words-by, line-words}
-use Rattle.grammar.specs.Words.{Word, word, with-places, words-from, words-of, is-letter, is-name-byte, all-name-bytes, is-name, odd-name}
+use Rattle.grammar.specs.Reading.{is-plain, odd-byte, unless, stands, takes, takes-by, words-with, line-words}
+use Rattle.grammar.specs.Words.{Word, with-places, words-of, is-letter, is-name-byte, all-name-bytes, is-name, odd-name}
 
 -- o is the leftmost number of which P holds, if there is one
 abbrev pub Leftmost : Option ℕ → (ℕ → Type 0) → Type 0

@@ -1,18 +1,18 @@
 -- A walk along the words of a line. Assumes nothing.
-use Prim.Native.Nat.{ℕ, suc, _+_, _-_, _*_, _≤_, _<_}
+use Prim.Native.Nat.{ℕ, _+_, _-_, _*_, _≤_, _<_}
 use mathlib.Core.Path.{_≡_, sym, ap, subst, _∙_}
-use mathlib.Core.Bool.{Bool, true, false, cond}
+use mathlib.Core.Bool.{Bool, true, false}
 use mathlib.Core.List.{List, [], _∷_, _++_, map, append-assoc}
 use native.Mathlib.Omega.{arith}
 use lib.ListN.{take}
 use Rattle.std.specs.Holes.{between}
 use Rattle.std.proofs.shelf.Lists.{map-append}
 use Rattle.std.proofs.shelf.Ways.{tells, leb-tells}
-use mathlib.Core.Logic.{_⊎_, inl, inr, ⊎-elim}
+use mathlib.Core.Logic.{_⊎_, ⊎-elim}
 use Rattle.line.specs.declared.places.Places.{Places}
 use Rattle.line.specs.Records.{word-in, words-in}
 use Rattle.line.specs.Taking.{NamedWord}
-use Rattle.grammar.specs.Words.{Word, word, words-from, words-of, is-name, odd-name}
+use Rattle.grammar.specs.Words.{word, words-from, words-of, odd-name}
 
 -- so many words have been taken, all of them names, and the next begins at `from`
 pub record Walked (line held : List ℕ) (from count : ℕ) (places : Places) : Type 0 where

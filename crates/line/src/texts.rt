@@ -2,7 +2,7 @@
 use crate::words::until;
 use grammar::grounds::Ground;
 use grammar::grounds::LineFault;
-ghost use Prim.Native.Nat.{_+_, _-_, _≤_, _<_};
+ghost use Prim.Native.Nat.{_-_, _≤_, _<_};
 ghost use mathlib.Core.Path.{_≡_};
 ghost use mathlib.Core.List.{[]};
 ghost use lib.ListN.{length};

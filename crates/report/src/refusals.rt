@@ -3,7 +3,6 @@ use crate::areas::put;
 use crate::decimals::Decimal;
 use grammar::grounds::Ground;
 use grammar::grounds::Refusal;
-ghost use lib.ListN.{length};
 ghost use Rattle.report.specs.Lines.{x-line, Fills};
 
 /// Writes the `X:` line of a refusal into an area, from its first byte on, and answers the line's length.

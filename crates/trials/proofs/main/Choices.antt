@@ -1,6 +1,5 @@
 use mathlib.Core.Path.{_≡_}
 use denote.Ref.{now}
-use Rattle.line.specs.declared.texts.Lines.{Lines}
 use Rattle.trials.proofs.main.Given as given
 
 abbrev pub Inv-loop-start : given.InvT-loop-start

@@ -1,9 +1,9 @@
-use mathlib.Core.Path.{_≡_, sym, ap}
+use mathlib.Core.Path.{sym, ap}
 use native.Mathlib.Omega.{arith}
 use lib.ListN.{length}
 use denote.Ref.{now}
 use Rattle.std.specs.Parts.{enumerate-source, enumerate-count}
-use Rattle.account.proofs.Sofar.{Sofar, room, line-on, all-lines, bad-line}
+use Rattle.account.proofs.Sofar.{room, line-on, all-lines, bad-line}
 use Rattle.account.proofs.checking.check_text.Needs as need
 
 pub note-requires : need.note-requires

@@ -1,6 +1,5 @@
 use denote.Ref.{now}
 use Rattle.std.specs.Parts.{enumerate-source, enumerate-count}
-use Rattle.line.specs.declared.texts.Lines.{Lines}
 use Rattle.account.proofs.Sofar.{Sofar}
 use Rattle.account.proofs.checking.check_text.Given as given
 

@@ -1,5 +1,4 @@
 use mathlib.Core.Path.{_≡_, sym}
-use mathlib.Core.Bool.{true, false}
 use Prim.Native.Nat.{ℕ}
 use native.Mathlib.Omega.{arith}
 use Rattle.grammar.proofs.Steps.{short-unmarked}

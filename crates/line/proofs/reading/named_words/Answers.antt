@@ -6,7 +6,7 @@ use denote.Ref.{now}
 use Rattle.std.specs.Parts.{enumerate-source, enumerate-count}
 use Rattle.std.proofs.shelf.Results.{cases-at-ok}
 use Rattle.line.specs.declared.places.Place.{Place}
-use Rattle.line.proofs.Walks.{Walked, walk-on}
+use Rattle.line.proofs.Walks.{walk-on}
 use Rattle.line.proofs.reading.named_words.Needs as need
 
 pub loop-index-again : need.loop-index-again

@@ -1,4 +1,4 @@
-use mathlib.Core.Path.{_≡_, sym, _∙_}
+use mathlib.Core.Path.{sym, _∙_}
 use Rattle.grammar.proofs.Names.{rest-decides}
 use Rattle.line.proofs.words.is_name.Needs as need
 

@@ -5,7 +5,7 @@ use native.Mathlib.Omega.{arith}
 use lib.ListN.{length, drop}
 use Rattle.std.specs.Written.{decimal}
 use Rattle.report.specs.Lines.{x-line}
-use Rattle.report.proofs.Pieces.{Fronted, nothing-yet, piece-on, parted, x-line-parts, parted-length, line-stands}
+use Rattle.report.proofs.Pieces.{nothing-yet, piece-on, parted, x-line-parts, parted-length, line-stands}
 use Rattle.report.proofs.refusals.x_line.Needs as need
 use Rattle.report.proofs.refusals.x_line.Needs.{After-as-slice-byte}
 

@@ -1,6 +1,5 @@
 use borrow.Author.Needs.{needs}
-use native.Mathlib.Omega.{arith}
-use lib.ListN.{drop, length-drop}
+use lib.ListN.{length-drop}
 use Rattle.report.proofs.Pieces.{to-the-end}
 use Rattle.report.proofs.decimals.Decimal.as_slice.Needs as need
 

@@ -1,10 +1,10 @@
 use Prim.Native.Nat.{_+_, _-_, _^_, _<_, _≤_}
-use mathlib.Core.Path.{_≡_, refl, subst, sym, ap, _∙_}
+use mathlib.Core.Path.{_≡_, refl, ap, _∙_}
 use mathlib.Core.List.{_++_, append-nil}
 use native.Mathlib.Omega.{arith}
 use lib.ListN.{replicate, drop}
 use Rattle.std.specs.Written.{decimal}
-use Rattle.report.proofs.Digits.{Written, write-digit, place-left, writes-number}
+use Rattle.report.proofs.Digits.{write-digit, place-left, writes-number}
 use Rattle.report.proofs.decimals.Decimal.of.Needs as need
 
 pub loop-rest-holds : need.loop-rest-holds
