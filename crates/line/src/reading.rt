@@ -128,7 +128,7 @@ fn right_count(kind: Kind, words: &Places) -> Result<(), LineFault>
     Ok(())
 }
 
-/// Reads one line, given without the byte that ends it. An empty line is accepted and is no record.
+/// Reads one line, without the byte 10 behind it. An empty line reads as no record.
 pub fn read_line(line: &[u8]) -> Result<Option<Record>, LineFault>
     ensures { λ r. ⌜ ReadsLine (now (line .entry)) r ⌝ }
 {

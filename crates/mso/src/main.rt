@@ -1,4 +1,4 @@
-//! Reads a model text from standard input, checks it line by line, and prints what it holds or its first refused line.
+//! Checks the model text on standard input, and prints an account of its lines or the first that is refused.
 use account::accounts::Account;
 use account::checking::check_text;
 use grammar::grounds::Refusal;
@@ -7,7 +7,7 @@ use std::error::AnyError;
 use std::io::Read;
 use std::io::Write;
 
-/// One byte more than a text may have, so that a longer one is seen to be too long.
+/// How much input is taken: enough to tell a text that is too long.
 const MOST: u64 = 32769;
 
 fn print_account(rt: &LibcRuntime, account: Account) -> Result<(), AnyError> {
