@@ -1,4 +1,6 @@
 //! One line of a model text: its mark, its words and their names, and where a fault lies.
+#![tactic(auto)]
+
 pub mod places;
 pub mod reading;
 pub mod records;

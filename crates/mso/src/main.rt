@@ -1,4 +1,6 @@
 //! Checks the model text on standard input, and prints an account of its lines or the first that is refused.
+#![tactic(auto)]
+
 use account::accounts::Account;
 use account::checking::check_text;
 use anyhow::anyhow;

@@ -1,4 +1,6 @@
 //! Builds the packaged model by numbers on three kinds of sources, puts the layers over each, and prints what they answer; then tries the limits.
+#![tactic(auto)]
+
 mod limits;
 mod model;
 mod show;

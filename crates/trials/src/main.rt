@@ -1,4 +1,6 @@
 //! Runs examples of the rules and prints what came of each; the gate compares that with what was worked out by hand.
+#![tactic(auto)]
+
 mod cases;
 mod limits;
 mod writing;
