@@ -31,7 +31,7 @@ counts ls = record {
 }
 
 abbrev pub in_line : ℕ → LineFault → Refusal
-in_line n f = record { ground = f.ground; line = n; byte = f.byte }
+in_line n f = record { reason = f.reason; line = n; byte = f.byte }
 
 abbrev pub or_refused : ℕ → Result (Option Entry) LineFault → Option Refusal → Option Refusal
 or_refused n (Ok o) later = later
@@ -47,7 +47,7 @@ account_or None ls = Ok (counts ls)
 account_or (Some r) ls = Err r
 
 abbrev pub account : List ℕ → Result Account Refusal
-account text = cond (nat_le (length text) 32768) (account_or (first_refused 1 (lines text)) (lines text)) (Err (record { ground = TextTooLong; line = 0; byte = 0 }))
+account text = cond (nat_le (length text) 32768) (account_or (first_refused 1 (lines text)) (lines text)) (Err (record { reason = TextTooLong; line = 0; byte = 0 }))
 
 -- line number n of the text is refused, and each line before it reads
 pub record FirstRefused (ls : List (List ℕ)) (r : Refusal) : Type 0 where
@@ -65,4 +65,4 @@ abbrev pub CheckedText : List ℕ → Result Account Refusal → Type 0
 CheckedText text r =
     MatchResult r
     (λ a. (length text ≤ 32768) × All (λ l. is_ok (line_reading l) ≡ true) (lines text) × (a ≡ counts (lines text)))
-    (λ e. ((32768 < length text) × (e ≡ record { ground = TextTooLong; line = 0; byte = 0 })) ⊎ ((length text ≤ 32768) × FirstRefused (lines text) e))
+    (λ e. ((32768 < length text) × (e ≡ record { reason = TextTooLong; line = 0; byte = 0 })) ⊎ ((length text ≤ 32768) × FirstRefused (lines text) e))

@@ -46,7 +46,7 @@ fn in_line(index: usize, fault: LineFault) -> Refusal
     ensures { result ≡ in_line (index + 1) fault }
 {
     Refusal {
-        ground: fault.ground,
+        reason: fault.reason,
         line: index as u32 + 1,
         byte: fault.byte as u32,
     }
@@ -59,7 +59,7 @@ pub fn check_text(text: &[u8]) -> Result<Account, Refusal>
 {
     if let Err(fault) = text_fits(text) {
         return Err(Refusal {
-            ground: fault.ground,
+            reason: fault.reason,
             line: 0,
             byte: 0,
         });

@@ -29,7 +29,7 @@ abbrev pub checking_order : List Ground
 checking_order = TextTooLong ∷ LineTooLong ∷ ByteOutside ∷ NoMark ∷ NotAName ∷ WordCount ∷ NameTaken ∷ NotFound ∷ ModelFull ∷ SourceFull ∷ NoSuchNumber ∷ NoSuchGoal ∷ OfferNotOpen ∷ PageTooShort ∷ AreaTooShort ∷ GoalNotMet ∷ []
 
 abbrev pub fault : Ground → ℕ → LineFault
-fault g k = record { ground = g; byte = k }
+fault g k = record { reason = g; byte = k }
 
 -- the fault of a ground that stands at a place, if it stands, else what comes after
 abbrev pub else_after : Ground → Option ℕ → Option LineFault → Option LineFault
@@ -46,7 +46,7 @@ first_fault stands (g ∷ gs) = else_after g (stands g) (first_fault stands gs)
 pub record FirstInOrder (Applies : Ground → ℕ → Type 0) (order : List Ground) (f : LineFault) : Type 0 where
   pub earlier : List Ground
   pub later : List Ground
-  pub whole : order ≡ earlier ++ f.ground ∷ later
+  pub whole : order ≡ earlier ++ f.reason ∷ later
   pub quiet : All (λ g. (k : ℕ) → Applies g k → ⊥) earlier
-  pub stands : Applies f.ground f.byte
-  pub leftmost : (k : ℕ) → Applies f.ground k → f.byte ≤ k
+  pub stands : Applies f.reason f.byte
+  pub leftmost : (k : ℕ) → Applies f.reason k → f.byte ≤ k

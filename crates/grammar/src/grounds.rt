@@ -51,14 +51,14 @@ impl Ground {
 /// Why a line is refused, and at which of its bytes, counted from 1; 0 where no byte is at fault.
 #[derive(Clone, Copy, PartialEq, Eq, Debug)]
 pub struct LineFault {
-    pub ground: Ground,
+    pub reason: Ground,
     pub byte: usize,
 }
 
 /// What a user is shown of a refused call: the ground, and the line and the byte at fault, both counted from 1, or 0.
 #[derive(Clone, Copy, PartialEq, Eq, Debug)]
 pub struct Refusal {
-    pub ground: Ground,
+    pub reason: Ground,
     pub line: u32,
     pub byte: u32,
 }

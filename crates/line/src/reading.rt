@@ -18,7 +18,7 @@ fn within_length(line: &[u8]) -> Result<(), LineFault>
 {
     if line.len() > 240 {
         return Err(LineFault {
-            ground: Ground::LineTooLong,
+            reason: Ground::LineTooLong,
             byte: 0,
         });
     }
@@ -37,7 +37,7 @@ fn plain_bytes(line: &[u8]) -> Result<(), LineFault>
     for (i, b) in line.iter().enumerate() {
         if !is_plain(*b) {
             return Err(LineFault {
-                ground: Ground::ByteOutside,
+                reason: Ground::ByteOutside,
                 byte: i + 1,
             });
         }
@@ -72,7 +72,7 @@ fn kind_at(line: &[u8]) -> Result<Kind, LineFault>
 {
     let Some(kind) = mark_kind(line) else {
         return Err(LineFault {
-            ground: Ground::NoMark,
+            reason: Ground::NoMark,
             byte: 0,
         });
     };
@@ -114,7 +114,7 @@ fn right_count(kind: Kind, words: &Places) -> Result<(), LineFault>
     };
     if !right {
         return Err(LineFault {
-            ground: Ground::WordCount,
+            reason: Ground::WordCount,
             byte: 0,
         });
     }

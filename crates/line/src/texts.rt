@@ -14,7 +14,7 @@ pub fn text_fits(text: &[u8]) -> Result<(), LineFault>
 {
     if text.len() > 32768 {
         return Err(LineFault {
-            ground: Ground::TextTooLong,
+            reason: Ground::TextTooLong,
             byte: 0,
         });
     }

@@ -1,5 +1,6 @@
 //! The words of a line, taken one after the other.
 ghost use Rattle.std.specs.Prelude.{◌≡◌, ℕ, ◌+◌, ◌-◌, ◌<◌, ◌≤◌, length, MatchOption, ◌≢◌, slice_index};
+ghost use Rattle.std.specs.Iterator.{at_most};
 ghost use Rattle.line.specs.Taking.{FirstWord, NextWord, WordStep};
 ghost use Rattle.grammar.specs.Words.{is_letter, is_name_byte, all_name_bytes, is_name, word, words_from, words_of};
 
@@ -73,7 +74,7 @@ pub fn next_word(line: &[u8], from: usize) -> Result<Option<(usize, usize)>, Lin
     };
     if !is_name(&line[start..end]) {
         return Err(LineFault {
-            ground: Ground::NotAName,
+            reason: Ground::NotAName,
             byte: start + 1,
         });
     }
@@ -102,9 +103,7 @@ impl<'a> Iterator for Words<'a> {
 
     ghost can_next = { λ s. length s.line.now ≤ 240 };
 
-    ghost ends = { λ s. length s.line.now ≤ 240 };
-
-    ghost remaining = { λ s. (length s.line.now + 1) - s.from };
+    ghost remaining = { λ s. at_most ((length s.line.now + 1) - s.from) };
 
     ghost next_gives = { λ s r t. WordStep s.line.now s.from r t.line.now t.from };
 

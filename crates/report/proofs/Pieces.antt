@@ -30,7 +30,7 @@ piece_on t xs bs i j area after f put on =
 abbrev pub parted : List ℕ → List ℕ → List ℕ → List ℕ
 parted a b c = (88 ∷ 58 ∷ []) ++ (a ++ (32 ∷ (b ++ (32 ∷ (c ++ (10 ∷ []))))))
 
-pub x_line_parts : (r : Refusal) (a b c : List ℕ) → a ≡ decimal (ground_number r.ground) → b ≡ decimal r.line → c ≡ decimal r.byte → parted a b c ≡ x_line r
+pub x_line_parts : (r : Refusal) (a b c : List ℕ) → a ≡ decimal (ground_number r.reason) → b ≡ decimal r.line → c ≡ decimal r.byte → parted a b c ≡ x_line r
 x_line_parts r a b c ea eb ec = rw (ea, eb, ec)
 
 pub parted_length : (a b c : List ℕ) → length (parted a b c) ≡ length a + length b + length c + 5

@@ -6,7 +6,7 @@ use Rattle.grammar.specs.Refusals.{ground_number}
 
 -- `X:`, the ground's number, the line and the byte, one space between each two, and byte 10
 abbrev pub x_line : Refusal → List ℕ
-x_line r = (88 ∷ 58 ∷ []) ++ (decimal (ground_number r.ground) ++ (32 ∷ (decimal r.line ++ (32 ∷ (decimal r.byte ++ (10 ∷ []))))))
+x_line r = (88 ∷ 58 ∷ []) ++ (decimal (ground_number r.reason) ++ (32 ∷ (decimal r.line ++ (32 ∷ (decimal r.byte ++ (10 ∷ []))))))
 
 -- the area with bytes put over those from an index on
 abbrev pub overwritten : ℕ → List ℕ → List ℕ → List ℕ
@@ -17,4 +17,4 @@ abbrev pub Fills : List ℕ → List ℕ → Result ℕ Refusal → List ℕ →
 Fills bs before r after =
     MatchResult r
     (λ n. (n ≡ length bs) × (length bs ≤ length before) × (after ≡ bs ++ drop (length bs) before))
-    (λ e. (e ≡ record { ground = AreaTooShort; line = 0; byte = 0 }) × (length before < length bs) × (after ≡ before))
+    (λ e. (e ≡ record { reason = AreaTooShort; line = 0; byte = 0 }) × (length before < length bs) × (after ≡ before))

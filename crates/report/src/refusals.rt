@@ -9,7 +9,7 @@ use grammar::grounds::{Ground, Refusal};
 pub fn x_line(refusal: Refusal, area: &mut [u8]) -> Result<usize, Refusal>
     ensures { Fills (x_line refusal) area.old result area.new }
 {
-    let number = Decimal::of(refusal.ground.number());
+    let number = Decimal::of(refusal.reason.number());
     let line = Decimal::of(refusal.line);
     let byte = Decimal::of(refusal.byte);
     let number = number.as_slice();
@@ -17,7 +17,7 @@ pub fn x_line(refusal: Refusal, area: &mut [u8]) -> Result<usize, Refusal>
     let byte = byte.as_slice();
     if area.len() < number.len() + line.len() + byte.len() + 5 {
         return Err(Refusal {
-            ground: Ground::AreaTooShort,
+            reason: Ground::AreaTooShort,
             line: 0,
             byte: 0,
         });

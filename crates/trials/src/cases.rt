@@ -35,7 +35,7 @@ fn words_of(read: Option<Record>) -> [usize; 5] {
 fn line_outcome(line: &[u8]) -> ([usize; 2], [usize; 5]) {
     match read_line(line) {
         Ok(read) => ([0; 2], words_of(read)),
-        Err(fault) => ([fault.ground.number() as usize, fault.byte], [0; 5]),
+        Err(fault) => ([fault.reason.number() as usize, fault.byte], [0; 5]),
     }
 }
 
@@ -46,7 +46,7 @@ pub(crate) fn text_outcome(text: &[u8]) -> ([u32; 3], [u32; 5]) {
             [0; 3],
             [a.equations, a.faults, a.offers, a.comments, a.empty],
         ),
-        Err(r) => ([r.ground.number(), r.line, r.byte], [0; 5]),
+        Err(r) => ([r.reason.number(), r.line, r.byte], [0; 5]),
     }
 }
 

@@ -14,13 +14,13 @@ fn show_number(rt: &HostRuntime, n: u32) -> io::Result<()> {
 /// The length of a refusal's line and no ground, or 0 and the ground on which it was not written.
 fn line_outcome(area: &mut [u8]) -> (usize, u32) {
     let refusal = Refusal {
-        ground: Ground::GoalNotMet,
+        reason: Ground::GoalNotMet,
         line: 32768,
         byte: 241,
     };
     match x_line(refusal, area) {
         Ok(length) => (length, 0),
-        Err(e) => (0, e.ground.number()),
+        Err(e) => (0, e.reason.number()),
     }
 }
 

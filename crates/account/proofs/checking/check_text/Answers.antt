@@ -23,12 +23,12 @@ loop-index-preserved c =
           c.loop-index.invariant.2 s.0.1.0 s.0.0 s.0.1.1 s.2 c.in-Ok.ensures.value c.note.ensures,
     )
 
-pub returns-in-Err-read-line : goal.returns-in-Err-read-line
-returns-in-Err-read-line c =
+pub returns-in-Err-read_line : goal.returns-in-Err-read_line
+returns-in-Err-read_line c =
     let s = c.in-Some.ensures.steps in
     let bad = bad_line
     c.args.text.now (enumerate_source c.loop-index.index-iterator).text.now (enumerate_source c.loop-index.index-iterator).from (enumerate_count c.loop-index.index-iterator) c.loop-index.account
-    (c.in-Some.start, c.in-Some.end) c.in-Some.index c.in-Err-read-line.fault c.in_line.result c.loop-index.invariant.2 s.0.1.0 s.1 (sym c.in-Err-read-line.ensures.value) c.in_line.ensures in
+    (c.in-Some.start, c.in-Some.end) c.in-Some.index c.in-Err-read_line.fault c.in_line.result c.loop-index.invariant.2 s.0.1.0 s.1 (sym c.in-Err-read_line.ensures.value) c.in_line.ensures in
     record { value = bad.0; law = bad.1 }
 
 pub returns : goal.returns

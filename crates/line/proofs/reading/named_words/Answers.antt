@@ -9,8 +9,8 @@ pub loop-index-preserved : goal.loop-index-preserved
 loop-index-preserved c =
     let s = c.in-Some.ensures.steps in
     let on = c.in-Some.ensures.goes.on c.loop-index.invariant.1 in
-    let named = MatchResult-at_ok _ _ _ c.in-ok-start.was s.0.1 in
-    let place : Place = record { start = c.in-ok-start.start; end = c.in-ok-start.end } in
+    let named = MatchResult-at_ok _ _ _ c.in_ok-start.was s.0.1 in
+    let place : Place = record { start = c.in_ok-start.start; end = c.in_ok-start.end } in
     let len : c.put.new.self.len ≡ enumerate_count c.next.new.self = omega (arith, c.put.ensures.len, s.1, s.2) in
     let places : take c.put.new.self.len c.put.new.self.all ≡ take (enumerate_count c.loop-index.index-iterator) c.loop-index.places.all ++ place ∷ [] =
     subst (λ n. take c.put.new.self.len c.put.new.self.all ≡ take n c.loop-index.places.all ++ place ∷ []) s.1 c.put.ensures.places in (
@@ -18,7 +18,7 @@ loop-index-preserved c =
       on.1,
       walk_on
           c.args.line.now (enumerate_source c.loop-index.index-iterator).line.now (enumerate_source c.loop-index.index-iterator).from (enumerate_count c.loop-index.index-iterator) c.loop-index.places
-          (c.in-ok-start.start, c.in-ok-start.end)
+          (c.in_ok-start.start, c.in_ok-start.end)
           (enumerate_source c.next.new.self).line.now (enumerate_source c.next.new.self).from (enumerate_count c.next.new.self) c.put.new.self
           c.loop-index.invariant.2 s.0.0 named.0 named.1 s.2 len places,
     )

@@ -2,29 +2,29 @@ use Rattle.std.proofs.Common.{◌≡◌, ◌<◌, ◌≤◌, [], ◌∷◌, ◌+
 use Rattle.report.specs.Lines.{x_line}
 use Rattle.report.proofs.Pieces.{nothing_yet, piece_on, parted, x_line_parts, parted_length, line_stands}
 use Rattle.report.proofs.refusals.x_line.Goals as goal
-use Rattle.report.proofs.refusals.x_line.Goals.{After-as-slice-byte}
+use Rattle.report.proofs.refusals.x_line.Goals.{After-as_slice-byte}
 
 -- the three numbers, as they stand in the line
-numbers : (c : After-as-slice-byte) → parted c.as-slice-number.result.now c.as-slice-line.result.now c.as-slice-byte.result.now ≡ x_line c.args.refusal
+numbers : (c : After-as_slice-byte) → parted c.as_slice-number.result.now c.as_slice-line.result.now c.as_slice-byte.result.now ≡ x_line c.args.refusal
 numbers c =
     x_line_parts c.args.refusal _ _ _
-    (c.as-slice-number.ensures.value ∙ c.of-number.ensures.value ∙ ap decimal c.number.ensures)
-    (c.as-slice-line.ensures.value ∙ c.of-line.ensures.value)
-    (c.as-slice-byte.ensures.value ∙ c.of-byte.ensures.value)
+    (c.as_slice-number.ensures.value ∙ c.of-number.ensures.value ∙ ap decimal c.number.ensures)
+    (c.as_slice-line.ensures.value ∙ c.of-line.ensures.value)
+    (c.as_slice-byte.ensures.value ∙ c.of-byte.ensures.value)
 
 pub returns-then-area-number : goal.returns-then-area-number
 returns-then-area-number c =
-    let e = numbers (goal.at.returns-then-area-number c).After-as-slice-byte in
-    let long = parted_length c.as-slice-number.result.now c.as-slice-line.result.now c.as-slice-byte.result.now in
-    let short : length c.args.area.now < length (parted c.as-slice-number.result.now c.as-slice-line.result.now c.as-slice-byte.result.now) = omega (arith, long, c.if-area-number.true) in
+    let e = numbers (goal.at.returns-then-area-number c).After-as_slice-byte in
+    let long = parted_length c.as_slice-number.result.now c.as_slice-line.result.now c.as_slice-byte.result.now in
+    let short : length c.args.area.now < length (parted c.as_slice-number.result.now c.as_slice-line.result.now c.as_slice-byte.result.now) = omega (arith, long, c.if-area-number.true) in
     (refl, subst (λ l. length c.args.area.now < length l) e short, refl)
 
 pub returns : goal.returns
 returns c =
-    let e = numbers (goal.at.returns c).After-as-slice-byte in
-    let a = c.as-slice-number.result.now in
-    let b = c.as-slice-line.result.now in
-    let d = c.as-slice-byte.result.now in
+    let e = numbers (goal.at.returns c).After-as_slice-byte in
+    let a = c.as_slice-number.result.now in
+    let b = c.as_slice-line.result.now in
+    let d = c.as_slice-byte.result.now in
     let f0 = nothing_yet c.args.area.now in
     let f1 = piece_on _ _ (88 ∷ 58 ∷ []) _ _ _ _ f0 c.put-at.ensures.after c.put-at.ensures.value in
     let f2 = piece_on _ _ a _ _ _ _ f1 c.put-at-2.ensures.after c.put-at-2.ensures.value in

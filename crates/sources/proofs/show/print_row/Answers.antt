@@ -2,8 +2,8 @@ use Rattle.std.proofs.Common.{arith}
 use Rattle.source.proofs.Asking.{next_few}
 use Rattle.sources.proofs.show.print_row.Goals as goal
 
-pub overflow-add-from : goal.overflow-add-from
-overflow-add-from g c =
+pub overflow_add-from : goal.overflow_add-from
+overflow_add-from g c =
     let s = c.args.source.now in
     let l = next_few (g.S.Source.means s) (g.S.Source.bounded s) c.args.equation c.loop-unknown.from c.in-Some.unknown c.in-Some.ensures in
     omega arith

@@ -11,8 +11,8 @@ pub bounds-cells-end : goal.bounds-cells-end
 bounds-cells-end c =
     room_left (member_of c.args.unknowns.bits) c.args.start c.loop-j.end c.loop-j.j c.loop-j.invariant.size (sym c.if-holds.ensures) (omega arith) c.requires
 
-pub overflow-add-end : goal.overflow-add-end
-overflow-add-end c =
+pub overflow_add-end : goal.overflow_add-end
+overflow_add-end c =
     let l =
     room_left (member_of c.args.unknowns.bits) c.args.start c.loop-j.end c.loop-j.j c.loop-j.invariant.size (sym c.if-holds.ensures) (omega arith) c.requires in
     omega arith

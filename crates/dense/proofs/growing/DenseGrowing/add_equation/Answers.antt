@@ -7,27 +7,24 @@ use Rattle.source.proofs.Rules.{accepted}
 use Rattle.dense.specs.Rows.{in_row, dense_means}
 use Rattle.dense.proofs.growing.DenseGrowing.add_equation.Goals as goal
 
-pub invariant-of-self : goal.invariant-of-self
-invariant-of-self c =
+pub invariant_of-self : goal.invariant_of-self
+invariant_of-self c =
     let d = c.args.self.now in
     let us = c.args.unknowns in
-    let a = accepted _ (dense_means d) us.bits c.in-ok-admits-equation.ensures.rule in
+    let a = accepted _ (dense_means d) us.bits c.in_ok-admits_equation.ensures.rule in
     let few = a.few in
-    let l : d.equations < length d.rows = omega (arith, d.few.2) in (
-      (omega arith, d.few.1, rw length-set d.few.2),
-      (
-        λ i j h.
-            rows_keep (λ (r : UnknownSet). (j : ℕ) → member_of r.bits j ≡ true → j ≤ d.unknowns) d.rows d.equations us no_unknown l
-            (λ j m. let k = a.known j m in grind (arith, nat_tests)) (λ i h j. d.fits i j h) i (omega arith) j,
-        tt,
-      ),
-    )
+    let l : d.equations < length d.rows = omega (arith, d.few.2) in record {
+      few = (omega arith, d.few.1, rw length-set d.few.2);
+      fits = λ i j h.
+          rows_keep (λ (r : UnknownSet). (j : ℕ) → member_of r.bits j ≡ true → j ≤ d.unknowns) d.rows d.equations us no_unknown l
+          (λ j m. let k = a.known j m in grind (arith, nat_tests)) (λ i h j. d.fits i j h) i (omega arith) j;
+    }
 
 pub returns : goal.returns
 returns c =
     let d = c.args.self.now in
     let us = c.args.unknowns in
-    let rule = c.in-ok-admits-equation.ensures.rule in
+    let rule = c.in_ok-admits_equation.ensures.rule in
     let a = accepted _ (dense_means d) us.bits rule in
     let few = a.few in
     let l : d.equations < length d.rows = omega (arith, d.few.2) in

@@ -12,8 +12,8 @@ use Rattle.dense.proofs.growing.DenseSource.pairs.Goals as goal
 pub loop-i-init : goal.loop-i-init
 loop-i-init c = let z = pairs_to_none (dense_means c.args.self.now) in cc
 
-pub overflow-add-pairs : goal.overflow-add-pairs
-overflow-add-pairs c =
+pub overflow_add-pairs : goal.overflow_add-pairs
+overflow_add-pairs c =
     let d = c.args.self.now in
     let few = d.few.0 in
     let l = pairs_to_le (dense_means d) d.few.1 c.loop-i.i in

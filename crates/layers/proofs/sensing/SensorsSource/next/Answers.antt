@@ -12,6 +12,6 @@ returns-then-holds g c =
     let xs = sensors_of s in
     let i = c.args.equation in
     let j = c.args.unknown in
-    let x = c.unknown-at-measured.result in
+    let x = c.unknown_at-measured.result in
     next_found (with_sensors M xs) (sensors_bounded M (g.S.Source.bounded s.below) xs) i j x (omega arith)
-    (sensor_lowest M xs i j x (omega arith) (c.unknown-at-measured.ensures ∙ ap (λ f. get_or xs (i - f - 1) 0) c.equations-first.ensures) (omega arith) (sym c.holds.ensures ∙ c.if-holds.true))
+    (sensor_lowest M xs i j x (omega arith) (c.unknown_at-measured.ensures ∙ ap (λ f. get_or xs (i - f - 1) 0) c.equations-first.ensures) (omega arith) (sym c.holds.ensures ∙ c.if-holds.true))

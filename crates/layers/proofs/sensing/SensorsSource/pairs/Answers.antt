@@ -13,8 +13,8 @@ loop-k-init g c =
     let f : c.equations-first.result + 0 ≡ M.m = omega arith in
     c.pairs-pairs.ensures ∙ sym (pairs_below M (sensors_of s)) ∙ ap (pairs_to (with_sensors M (sensors_of s))) (sym f)
 
-pub overflow-add-pairs : goal.overflow-add-pairs
-overflow-add-pairs g c =
+pub overflow_add-pairs : goal.overflow_add-pairs
+overflow_add-pairs g c =
     let s = c.args.self.now in
     let M = g.S.Source.means s.below in
     let b = g.S.Source.bounded s.below in
@@ -27,8 +27,8 @@ loop-k-preserved g c =
     let s = c.args.self.now in
     let M = g.S.Source.means s.below in
     let more = λ (b : Bool) (e : b ≡ c.holds.result).
-    sensor_counted M (sensors_of s) c.equations-first.result c.loop-k.k c.unknown-at-unknown.result c.loop-k.pairs b
-    c.equations-first.ensures c.loop-k.invariant c.unknown-at-unknown.ensures (e ∙ c.holds.ensures) in
+    sensor_counted M (sensors_of s) c.equations-first.result c.loop-k.k c.unknown_at-unknown.result c.loop-k.pairs b
+    c.equations-first.ensures c.loop-k.invariant c.unknown_at-unknown.ensures (e ∙ c.holds.ensures) in
     elim c.if-holds.branch [
       | then-holds w ↦ let e = w.pairs-is in let m = more true (sym w.if-holds.true) in omega arith
       | else-holds w ↦ let e = w.pairs-is in let m = more false (sym w.if-holds.false) in omega arith

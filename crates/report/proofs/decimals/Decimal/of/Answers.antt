@@ -8,8 +8,8 @@ loop-rest-init c =
     let small : c.args.n < 2 ^ 32 = omega arith in
     write_digit c.args.n c.args.n 9 _ (replicate 10 48) refl refl low small (append-nil (decimal c.args.n))
 
-pub overflow-sub-start : goal.overflow-sub-start
-overflow-sub-start c =
+pub overflow_sub-start : goal.overflow_sub-start
+overflow_sub-start c =
     let small : c.args.n < 2 ^ 32 = omega arith in
     place_left c.args.n c.loop-rest.rest c.loop-rest.start c.loop-rest.places small c.loop-rest.invariant c.loop-rest-test.true
 

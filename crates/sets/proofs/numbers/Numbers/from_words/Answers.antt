@@ -9,8 +9,8 @@ returns g c =
     let b = c.args.second in
     let fa : a < 2 ^ 64 = omega arith in
     let fb : b * 2 ^ 64 < 2 ^ 128 = omega arith in
-    let s = c.from-bits.ensures in
+    let s = c.from_bits.ensures in
     let m = mod-eq_of_lt fb in
     let o = or_shifted b 64 a fa in
-    let e : c.from-bits.result.bits ≡ b * 2 ^ 64 + a = cc in
+    let e : c.from_bits.result.bits ≡ b * 2 ^ 64 + a = cc in
     rw e (joined_words a b fa (omega arith))

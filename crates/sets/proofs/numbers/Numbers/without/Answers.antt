@@ -6,11 +6,11 @@ use Rattle.sets.specs.Members.{member_of}
 use Rattle.sets.proofs.Bitwise.{members_one_of, members_xor}
 use Rattle.sets.proofs.numbers.Numbers.without.Goals as goal
 
-pub overflow-sub-number : goal.overflow-sub-number
-overflow-sub-number g c = let h = members_one_of c.args.self.bits c.args.number (sym c.holds.ensures ∙ c.if-holds.true) in grind (arith, nat_tests)
+pub overflow_sub-number : goal.overflow_sub-number
+overflow_sub-number g c = let h = members_one_of c.args.self.bits c.args.number (sym c.holds.ensures ∙ c.if-holds.true) in grind (arith, nat_tests)
 
-pub overflow-shl-number : goal.overflow-shl-number
-overflow-shl-number g c = let h = members_one_of c.args.self.bits c.args.number (sym c.holds.ensures ∙ c.if-holds.true) in grind (arith, nat_tests)
+pub overflow_shl-number : goal.overflow_shl-number
+overflow_shl-number g c = let h = members_one_of c.args.self.bits c.args.number (sym c.holds.ensures ∙ c.if-holds.true) in grind (arith, nat_tests)
 
 pub returns-then-holds : goal.returns-then-holds
 returns-then-holds g c i =
@@ -18,7 +18,7 @@ returns-then-holds g c i =
     let e = c.args.number in
     let in_it : member_of n e ≡ true = sym c.holds.ensures ∙ c.if-holds.true in
     let h = members_one_of n e in_it in
-    let b = c.from-bits.ensures in
+    let b = c.from_bits.ensures in
     let o = one_shl (e - 1) 128 (grind (arith, nat_tests)) in
     let m = members_xor n e i in_it in
     cc

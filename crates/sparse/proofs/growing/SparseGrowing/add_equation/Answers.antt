@@ -11,28 +11,30 @@ pub fill-end-requires : goal.fill-end-requires
 fill-end-requires c =
     let s = c.args.self.now in
     let us = c.args.unknowns in
-    let a = accepted _ (sparse_means s) us.bits c.in-ok-admits-equation.ensures.rule in
+    let a = accepted _ (sparse_means s) us.bits c.in_ok-admits_equation.ensures.rule in
     let e = ends_counted s s.equations (omega arith) in
     omega (arith, a.spare)
 
-pub invariant-of-self : goal.invariant-of-self
-invariant-of-self c =
+pub invariant_of-self : goal.invariant_of-self
+invariant_of-self c =
     let s = c.args.self.now in
     let us = c.args.unknowns in
-    let a = accepted _ (sparse_means s) us.bits c.in-ok-admits-equation.ensures.rule in
+    let a = accepted _ (sparse_means s) us.bits c.in_ok-admits_equation.ensures.rule in
     let e = ends_counted s s.equations (omega arith) in
     let w : Appended s c.fill-end.new.cells c.fill-end.result (member_of us.bits) =
     record { few = a.few; filled = c.fill-end.ensures; fits = omega (arith, a.spare, c.fill-end.ensures.size); real = a.known } in
-    let few = a.few in (
-      (omega arith, s.few.1, c.fill-end.ensures.long ∙ s.few.2, rw length-set s.few.3),
-      (ends_ordered s _ _ _ w, (lists_rising s _ _ _ w, (cells_known s _ _ _ w, tt))),
-    )
+    let few = a.few in record {
+      few = (omega arith, s.few.1, c.fill-end.ensures.long ∙ s.few.2, rw length-set s.few.3);
+      ordered = ends_ordered s _ _ _ w;
+      rising = lists_rising s _ _ _ w;
+      known = cells_known s _ _ _ w;
+    }
 
 pub returns : goal.returns
 returns c =
     let s = c.args.self.now in
     let us = c.args.unknowns in
-    let rule = c.in-ok-admits-equation.ensures.rule in
+    let rule = c.in_ok-admits_equation.ensures.rule in
     let a = accepted _ (sparse_means s) us.bits rule in
     let e = ends_counted s s.equations (omega arith) in
     let w : Appended s c.fill-end.new.cells c.fill-end.result (member_of us.bits) =

@@ -8,6 +8,6 @@ use Rattle.sparse.proofs.growing.SparseGrowing.add_unknown.Goals as goal
 pub returns : goal.returns
 returns c =
     let s = c.args.self.now in
-    let rule = c.in-ok-admits-unknown.ensures in
+    let rule = c.in_ok-admits_unknown.ensures in
     let more = clip_column s.equations s.unknowns (in_list s) (λ i j p q h. let o = list_known s i j h in grind (arith, nat_tests)) in
     (rule, cc)
