@@ -1,5 +1,5 @@
 -- How far a refused line's byte can lie. Assumes nothing.
-use Rattle.std.proofs.Common.{ℕ, ◌+◌, ◌≤◌, Bool, true, false, cond, leb, ◌⊎◌, List, [], ◌∷◌, length, drop, IfSome, IfErr, Some, None, Option, ap, ⊎_elim, arith, length-append, length-drop}
+use Rattle.std.proofs.Common.{ℕ, ◌+◌, ◌≤◌, Bool, true, false, cond, leb, List, [], ◌∷◌, length, drop, IfSome, IfErr, Some, None, Option, ap, ⊎_elim, arith, length-append, length-drop}
 use Rattle.std.proofs.lemmas.Bool.Decides.{leb_tells}
 use Rattle.grammar.specs.declared.grounds.Ground.{Ground}
 use Rattle.grammar.specs.declared.grounds.Ground.TheVariants.{LineTooLong, ByteOutside, NoMark, NotAName, WordCount}

@@ -1,5 +1,5 @@
 -- Layers: sensors one by one, and a source read the other way. Assumes nothing.
-use Rattle.std.proofs.Common.{◌≡◌, ℕ, zero, suc, ◌+◌, ◌-◌, ◌<◌, ◌≤◌, min, Bool, true, false, cond, ◌&&◌, eqb, leb, List, [], ◌∷◌, ◌++◌, length, get_or, sym, refl, ap, ◌∙◌, ⊎_elim, arith, length-append}
+use Rattle.std.proofs.Common.{◌≡◌, ℕ, suc, ◌+◌, ◌-◌, ◌<◌, ◌≤◌, Bool, true, false, cond, eqb, List, [], ◌∷◌, ◌++◌, length, get_or, sym, refl, ap, ◌∙◌, ⊎_elim, arith, length-append}
 use Rattle.std.proofs.lemmas.List.{get_or_past, get_or_append_left, get_or-append_right}
 use Rattle.std.proofs.lemmas.Bool.{cases_lt, cases_order, eq-eqb}
 use Rattle.std.proofs.lemmas.Bool.Decides.{nat_tests}
@@ -7,7 +7,7 @@ use Rattle.sets.specs.Counting.{one_of, how_many}
 use Rattle.sets.specs.Members.{Lowest}
 use Rattle.source.specs.Growth.{with_row}
 use Rattle.layers.specs.Layers.{with_sensors, transpose_of, only}
-use Rattle.source.specs.Meaning.{Meaning, WithinLimits, numbered, pair_count, pairs_to}
+use Rattle.source.specs.Meaning.{Meaning, WithinLimits, pair_count, pairs_to}
 use Rattle.source.proofs.Asking.{none_outside, same_meaning}
 use Rattle.source.proofs.Sums.{how_many_one, pairs_to_step, pairs_to_same, pairs_swapped}
 

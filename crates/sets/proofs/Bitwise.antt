@@ -1,13 +1,12 @@
 -- What the operations on bits do to the set that they stand for. Assumes nothing.
-use Rattle.std.proofs.Common.{◌≡◌, ℕ, zero, suc, ◌+◌, ◌-◌, ◌*◌, ◌/◌, ◌%◌, ◌^◌, ◌<◌, ◌≤◌, min, max, Bool, true, false, cond, not, ◌&&◌, ◌||◌, eqb, leb, ◌⊎◌, Decides, sym, refl, ap, ◌∙◌, inl, inr, ⊎_elim, lt_of_le_of_lt, mod-eq_of_lt, arith, pow_pos, pow_mono, shr-shr, shr_lt}
+use Rattle.std.proofs.Common.{◌≡◌, ℕ, zero, suc, ◌+◌, ◌-◌, ◌*◌, ◌/◌, ◌%◌, ◌^◌, ◌<◌, ◌≤◌, Bool, true, false, eqb, Decides, sym, refl, ap, ◌∙◌, ⊎_elim, lt_of_le_of_lt, mod-eq_of_lt, arith, shr-shr}
 use lib.Bits.{bit_and, bit_or, bit_xor, and_mask, and_le_l}
-use lib.Count.{ones, count_trailing_zeros}
 use lib.Pow.{high, low}
 use Rattle.std.proofs.lemmas.Bool.{cases_lt, eq-eqb, eqb-true}
 use Rattle.std.proofs.lemmas.Bool.Decides.{nat_tests}
-use Rattle.sets.specs.Counting.{one_of, how_many}
-use Rattle.sets.specs.Members.{bit_set, member_of, and_also, all_but, PartOf, Lowest, InWords}
-use Rattle.sets.proofs.Digits.{bit_cases, or_bit, and_bit, xor_bit, no_bit, pow_bit, low_bits, same_low, LowestBit, trailing_bits, ones_more}
+use Rattle.sets.specs.Counting.{one_of}
+use Rattle.sets.specs.Members.{member_of, and_also, all_but, PartOf, Lowest, InWords}
+use Rattle.sets.proofs.Digits.{bit_cases, or_bit, and_bit, xor_bit, no_bit, pow_bit, low_bits, same_low, LowestBit}
 
 pub members_none : (i : ℕ) → member_of 0 i ≡ false
 unfolding member_of

@@ -1,10 +1,10 @@
 -- The bits of a number under the operations that sets use. Assumes nothing.
-use Rattle.std.proofs.Common.{◌≡◌, ℕ, zero, suc, ◌+◌, ◌-◌, ◌*◌, ◌/◌, ◌%◌, ◌^◌, ◌<◌, ◌≤◌, min, max, Bool, true, false, cond, eqb, ◌⊎◌, sym, refl, ap, ◌∙◌, inl, inr, ⊎_elim, lt_of_lt_of_le, mod-lt, mod-eq_of_lt, pow-suc, div-one, arith, pow_pos, pow_mono, pow-add, shr-shr}
-use native.Mathlib.Nat.{div-eq_of_lt, zero-mod, zero-div, pow-zero}
-use lib.Arith.{digits_mod, digits_div}
+use Rattle.std.proofs.Common.{◌≡◌, ℕ, zero, suc, ◌+◌, ◌-◌, ◌*◌, ◌/◌, ◌%◌, ◌^◌, ◌<◌, ◌≤◌, min, max, cond, eqb, ◌⊎◌, sym, refl, ap, ◌∙◌, ⊎_elim, lt_of_lt_of_le, mod-lt, pow-suc, arith, pow_pos, pow_mono, pow-add, shr-shr}
+use native.Mathlib.Nat.{div-eq_of_lt}
+use lib.Arith.{digits_mod}
 use lib.Bits.{bit_and, bit_or, bit_xor, and_step, or_step, xor_step, differ, and_shr, or_shr, xor_shr}
 use lib.Count.{ones, ones_cat, count_trailing_zeros, under}
-use lib.Pow.{pow-lt, shl-shr, mod-pow-add, high, low, field, mod-mod-pow}
+use lib.Pow.{pow-lt, shl-shr, mod-pow-add, field, mod-mod-pow}
 use Rattle.std.proofs.lemmas.Bool.{cases_order, eq-eqb, ne_eqb}
 use Rattle.std.proofs.lemmas.Bool.Decides.{nat_tests}
 

@@ -1,9 +1,8 @@
 -- What an answer has to be, from what a source stands for. Assumes nothing.
-use Rattle.std.proofs.Common.{◌≡◌, ℕ, suc, ◌+◌, ◌<◌, ◌≤◌, Bool, true, false, ◌&&◌, Some, None, Option, refl, ⊎_elim, arith}
+use Rattle.std.proofs.Common.{◌≡◌, ℕ, suc, ◌<◌, ◌≤◌, true, false, Some, None, refl, ⊎_elim, arith}
 use Rattle.std.proofs.lemmas.Bool.{cases_Bool, cases_lt, both_ways}
 use Rattle.std.proofs.lemmas.Bool.Decides.{nat_tests}
-use Rattle.sets.specs.Counting.{one_of}
-use Rattle.sets.specs.Members.{Lowest, FirstFrom}
+use Rattle.sets.specs.Members.{Lowest}
 use Rattle.source.specs.Meaning.{Meaning, WithinLimits, numbered, NextUnknown}
 
 -- what stands for the same number of equations and of unknowns and the same pairs is the same

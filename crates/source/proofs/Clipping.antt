@@ -1,11 +1,11 @@
 -- Sources that stand for a relation cut down to their numbers: what additions make of it. Assumes nothing.
-use Rattle.std.proofs.Common.{◌≡◌, ℕ, suc, ◌+◌, ◌-◌, ◌<◌, ◌≤◌, Bool, true, false, cond, ◌&&◌, eqb, List, length, get_or, set, sym, refl, ap, ◌∙◌, subst, ⊎_elim, arith}
+use Rattle.std.proofs.Common.{◌≡◌, ℕ, ◌+◌, ◌-◌, ◌<◌, ◌≤◌, Bool, true, false, cond, ◌&&◌, eqb, List, length, get_or, set, sym, refl, ap, ◌∙◌, subst, ⊎_elim, arith}
 use Rattle.std.proofs.lemmas.List.{get_or-set_same, get_or-set_other}
 use Rattle.std.proofs.lemmas.Bool.{cases_eq, eq-eqb, ne_eqb, cond-true, cond-false}
 use Rattle.std.proofs.lemmas.Bool.Decides.{nat_tests}
 use Rattle.sets.specs.Counting.{one_of, how_many}
 use Rattle.source.specs.Growth.{vacant, with_column, with_row}
-use Rattle.source.specs.Meaning.{Meaning, clipped, pairs_to}
+use Rattle.source.specs.Meaning.{clipped, pairs_to}
 use Rattle.source.proofs.Asking.{same_meaning}
 use Rattle.source.proofs.Sums.{how_many_same, how_many_more, pairs_to_step}
 

@@ -1,11 +1,10 @@
 -- The rule for adding an equation says what its grounds say. Assumes nothing.
-use Rattle.std.proofs.Common.{◌≡◌, ℕ, suc, ◌+◌, ◌-◌, ◌<◌, ◌≤◌, Bool, true, false, cond, ◌&&◌, ltb, leb, Some, None, Decides, sym, refl, ◌∙◌, ⊎_elim, arith}
-use Rattle.std.proofs.lemmas.Bool.{leb-true, leb-false, le-leb, lt-ltb, ltb-true, and_parts, cases_Bool, cases_lt, and_from, both_ways}
+use Rattle.std.proofs.Common.{◌≡◌, ℕ, suc, ◌+◌, ◌-◌, ◌<◌, ◌≤◌, Bool, true, false, cond, ◌&&◌, ltb, leb, Some, None, Decides, refl, ⊎_elim, arith}
+use Rattle.std.proofs.lemmas.Bool.{leb-true, leb-false, lt-ltb, ltb-true, and_parts, cases_Bool, cases_lt, and_from, both_ways}
 use Rattle.std.proofs.lemmas.Bool.Decides.{Decides-below_or, nat_tests}
 use Rattle.sets.specs.Counting.{one_of, how_many}
 use Rattle.sets.specs.Members.{member_of}
 use Rattle.sets.proofs.Bitwise.{members_few, members_one_of}
-use Rattle.source.specs.declared.faults.SourceFault.{SourceFault}
 use Rattle.source.specs.declared.faults.SourceFault.TheVariants.{Limit, Room, NoSuchUnknown}
 use Rattle.source.specs.Faults.{fault_number}
 use Rattle.source.specs.Meaning.{Meaning, pair_count}

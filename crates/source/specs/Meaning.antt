@@ -1,5 +1,5 @@
 -- What a source stands for. Assumes nothing.
-use Rattle.std.specs.Prelude.{◌≡◌, ℕ, ◌≤◌, Bool, true, false, ◌&&◌, Some, None, Option}
+use Rattle.std.specs.Prelude.{◌≡◌, ℕ, ◌≤◌, Bool, true, false, ◌&&◌, None, Option}
 use Rattle.std.proofs.lemmas.Bool.{and_parts}
 use Rattle.sets.specs.Counting.{one_of, how_many, sum_over}
 use Rattle.sets.specs.Members.{FirstFrom}

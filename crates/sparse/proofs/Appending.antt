@@ -1,14 +1,14 @@
 -- One list more behind the others. Assumes nothing.
-use Rattle.std.proofs.Common.{◌≡◌, ℕ, zero, suc, ◌+◌, ◌-◌, ◌<◌, ◌≤◌, Bool, true, false, cond, eqb, List, length, get_or, set, sym, refl, ap, ◌∙◌, ⊎_elim, arith, length-set}
+use Rattle.std.proofs.Common.{◌≡◌, ℕ, ◌+◌, ◌-◌, ◌<◌, ◌≤◌, Bool, true, false, cond, eqb, List, get_or, set, sym, ap, ◌∙◌, ⊎_elim, arith}
 use Rattle.std.proofs.lemmas.List.{get_or-set_same, get_or-set_other}
-use Rattle.std.proofs.lemmas.Bool.{cases_Bool, cases_eq, cases_lt, cond-true, cond-false, both_ways, eq-eqb, ne_eqb}
+use Rattle.std.proofs.lemmas.Bool.{cases_Bool, cases_eq, cases_lt, both_ways, eq-eqb, ne_eqb}
 use Rattle.std.proofs.lemmas.Bool.Decides.{nat_tests}
-use Rattle.sets.specs.Counting.{one_of, how_many}
+use Rattle.sets.specs.Counting.{one_of}
 use Rattle.sparse.specs.declared.lists.Sparse.{Sparse}
 use Rattle.sparse.specs.Cells.{stands_in, NumbersWritten}
 use Rattle.sparse.specs.Lists.{in_list}
 use Rattle.sparse.proofs.Kept.{end_within, start_is, end_is}
-use Rattle.sparse.proofs.Stretches.{among_at, among_by, among_none, among_same}
+use Rattle.sparse.proofs.Stretches.{among_by, among_none, among_same}
 
 -- A list of the numbers of S was written behind the last one of s, up to place z.
 pub record Appended (s : Sparse) (cells : List ℕ) (z : ℕ) (S : ℕ → Bool) : Type 0 where

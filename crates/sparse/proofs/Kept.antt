@@ -1,17 +1,15 @@
 -- What the lists of a sparse source say. Assumes nothing.
-use Rattle.std.proofs.Common.{◌≡◌, ℕ, zero, suc, ◌+◌, ◌-◌, ◌<◌, ◌≤◌, Bool, true, false, cond, get_or, Some, None, sym, refl, ap, ◌∙◌, ⊎_elim, arith}
-use Rattle.std.proofs.lemmas.Bool.{cases_Bool, cases_lt, cond-true, cond-false, both_ways}
+use Rattle.std.proofs.Common.{◌≡◌, ℕ, zero, suc, ◌+◌, ◌-◌, ◌<◌, ◌≤◌, true, false, get_or, Some, None, sym, refl, ap, ◌∙◌, ⊎_elim, arith}
+use Rattle.std.proofs.lemmas.Bool.{cases_Bool, cases_lt, cond-true, cond-false}
 use Rattle.std.proofs.lemmas.Bool.Decides.{nat_tests}
 use Rattle.sets.specs.Counting.{one_of, how_many}
-use Rattle.sets.specs.Members.{Lowest}
 use Rattle.source.specs.Meaning.{pairs_to, NextUnknown}
 use Rattle.source.proofs.Asking.{next_found, next_none}
-use Rattle.source.proofs.Clipping.{clip_kept, clip_counted}
+use Rattle.source.proofs.Clipping.{clip_counted}
 use Rattle.source.proofs.Sums.{pairs_to_none}
 use Rattle.sparse.specs.declared.lists.Sparse.{Sparse}
-use Rattle.sparse.specs.Cells.{stands_in}
 use Rattle.sparse.specs.Lists.{start_of, end_of, in_list, sparse_means, sparse_bounded}
-use Rattle.sparse.proofs.Stretches.{StandsIn, among_at, among_by, among_none, among_counted}
+use Rattle.sparse.proofs.Stretches.{among_at, among_by, among_none, among_counted}
 
 -- later lists end later
 pub ends_up : (s : Sparse) (i d : ℕ) → i + d ≤ s.equations → get_or s.ends i 0 ≤ get_or s.ends (i + d) 0

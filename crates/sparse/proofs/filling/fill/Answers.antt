@@ -1,4 +1,4 @@
-use Rattle.std.proofs.Common.{◌+◌, sym, ◌∙◌, arith}
+use Rattle.std.proofs.Common.{sym, arith}
 use Rattle.sets.specs.Members.{member_of}
 use Rattle.sparse.proofs.Writing.{filled_none, filled_skip, filled_more, room_left}
 use Rattle.sparse.proofs.filling.fill.Goals as goal

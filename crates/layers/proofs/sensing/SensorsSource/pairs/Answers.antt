@@ -1,4 +1,4 @@
-use Rattle.std.proofs.Common.{◌≡◌, ◌+◌, ◌≤◌, Bool, true, false, sym, ap, ◌∙◌, arith}
+use Rattle.std.proofs.Common.{◌≡◌, ◌+◌, Bool, true, false, sym, ap, ◌∙◌, arith}
 use Rattle.layers.specs.Layers.{sensors_of, with_sensors}
 use Rattle.source.specs.Meaning.{pairs_to}
 use Rattle.layers.proofs.Layering.{pairs_below, sensor_counted}

@@ -1,7 +1,6 @@
-use Rattle.std.proofs.Common.{◌≡◌, ◌-◌, ◌≤◌, true, leb, sym, ◌∙◌, arith}
+use Rattle.std.proofs.Common.{◌≡◌, ◌-◌, true, sym, ◌∙◌, arith}
 use Rattle.std.proofs.lemmas.Nat.{one_shl}
 use Rattle.std.proofs.lemmas.Bool.Decides.{nat_tests}
-use Rattle.sets.specs.Counting.{one_of}
 use Rattle.sets.specs.Members.{member_of}
 use Rattle.sets.proofs.Bitwise.{members_one_of, members_xor}
 use Rattle.sets.proofs.numbers.Numbers.without.Goals as goal

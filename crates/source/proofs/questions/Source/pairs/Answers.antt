@@ -1,6 +1,5 @@
 use Rattle.std.proofs.Common.{◌≡◌, ◌+◌, sym, ap, arith}
 use Rattle.sets.specs.Counting.{how_many}
-use Rattle.std.proofs.lemmas.Bool.Decides.{nat_tests}
 use Rattle.source.proofs.Sums.{how_many_none, how_many_step, pairs_to_none, pairs_to_step}
 use Rattle.source.proofs.questions.Source.pairs.Goals as goal
 use Rattle.source.proofs.questions.Source.pairs.Goals.{then-holds, else-holds}

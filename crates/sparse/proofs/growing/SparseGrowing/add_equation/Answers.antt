@@ -1,4 +1,4 @@
-use Rattle.std.proofs.Common.{◌≡◌, ◌+◌, ◌≤◌, get_or, sym, ◌∙◌, arith, length-set}
+use Rattle.std.proofs.Common.{◌∙◌, arith, length-set}
 use Rattle.sets.specs.Members.{member_of}
 use Rattle.source.proofs.Clipping.{clip_row}
 use Rattle.source.proofs.Rules.{accepted}

@@ -1,4 +1,4 @@
-use Rattle.std.proofs.Common.{◌<◌, ◌≤◌, arith}
+use Rattle.std.proofs.Common.{arith}
 use Rattle.sparse.proofs.Kept.{held, not_held}
 use Rattle.sparse.proofs.growing.SparseSource.holds.Goals as goal
 

@@ -1,4 +1,4 @@
-use Rattle.std.proofs.Common.{◌<◌, ◌≤◌, arith}
+use Rattle.std.proofs.Common.{arith}
 use Rattle.sparse.proofs.Kept.{first_in_list, none_in_list}
 use Rattle.sparse.proofs.growing.SparseSource.next.Goals as goal
 
