@@ -1,6 +1,6 @@
 -- A text checked up to some line. Assumes nothing.
 use Rattle.std.proofs.Common.{◌≡◌, ℕ, suc, ◌+◌, ◌<◌, ◌≤◌, Bool, true, false, cond, eqb, leb, List, [], ◌∷◌, ◌++◌, length, is_ok, Some, None, Ok, Err, Option, Result, sym, refl, ap, ◌∙◌, subst, inr, append_assoc, append-nil, arith, length-append}
-use Rattle.std.specs.List.{between, AllByRecursion as All}
+use Rattle.std.specs.List.{between, AllByRecursion}
 use Rattle.std.specs.Option.{option_map}
 use Rattle.std.proofs.lemmas.Bool.Decides.{leb_tells}
 use Rattle.grammar.specs.declared.grounds.LineFault.{LineFault}
@@ -39,7 +39,7 @@ counts_is ls a h = λ i. record { equations = h.equations i; faults = h.faults i
 
 -- ---- the first refused line
 
-all_read : (n : ℕ) (ls : List (List ℕ)) → All Reads ls → first_refused n ls ≡ None
+all_read : (n : ℕ) (ls : List (List ℕ)) → AllByRecursion Reads ls → first_refused n ls ≡ None
 all_read n [] h = refl
 all_read n (l ∷ ls) h = by (line_reading l) h.0 ∙ all_read (n + 1) ls h.1
   where
@@ -47,7 +47,7 @@ all_read n (l ∷ ls) h = by (line_reading l) h.0 ∙ all_read (n + 1) ls h.1
     by (Ok o) e = refl
     by (Err f) e = absurd (let y : ◌≡◌ {A = ℕ} 0 1 = cc in omega arith)
 
-first_bad : (n : ℕ) (before : List (List ℕ)) (bad : List ℕ) (after : List (List ℕ)) (f : LineFault) → All Reads before → line_reading bad ≡ Err f →
+first_bad : (n : ℕ) (before : List (List ℕ)) (bad : List ℕ) (after : List (List ℕ)) (f : LineFault) → AllByRecursion Reads before → line_reading bad ≡ Err f →
     first_refused n (before ++ bad ∷ after) ≡ Some (in_line (n + length before) f)
 first_bad n [] bad after f h e = rw e (ap (λ k. Some (in_line k f)) (omega arith))
 first_bad n (l ∷ before) bad after f h e = by (line_reading l) h.0 ∙ first_bad (n + 1) before bad after f h.1 e ∙ ap (λ k. Some (in_line k f)) (omega arith)
@@ -65,7 +65,7 @@ pub record Sofar (text held : List ℕ) (from n : ℕ) (a : Account) : Type 0 wh
   pub taken : List (List ℕ)
   pub whole : lines text ≡ taken ++ lines_from text from
   pub many : length taken ≡ n
-  pub read : All Reads taken
+  pub read : AllByRecursion Reads taken
   pub counted : CountsLines (λ c. marked c taken) a
 
 -- an account of the lines so far has room for one more
@@ -81,7 +81,7 @@ room text held from n a s inside = record {
     below : {m : ℕ} (c : ℕ) → m ≡ marked c s.taken → m < 32768
     below c e = omega (arith, e, marked_few c s.taken, s.many, s.few, s.short)
 
-all_one : (ls : List (List ℕ)) (l : List ℕ) → All Reads ls → Reads l → All Reads (ls ++ l ∷ [])
+all_one : (ls : List (List ℕ)) (l : List ℕ) → AllByRecursion Reads ls → Reads l → AllByRecursion Reads (ls ++ l ∷ [])
 all_one [] l h r = (r, tt)
 all_one (k ∷ ls) l h r = (h.0, all_one ls l h.1 r)
 
@@ -133,7 +133,7 @@ pub all_lines : (text held : List ℕ) (from n : ℕ) (a : Account) → Sofar te
 all_lines text held from n a s none =
     let left : lines_from text from ≡ [] = subst (λ h. lines_from h from ≡ []) s.same none in
     let all : lines text ≡ s.taken = s.whole ∙ ap (λ x. s.taken ++ x) left ∙ append-nil s.taken in
-    let read : All Reads (lines text) = subst (All Reads) (sym all) s.read in
+    let read : AllByRecursion Reads (lines text) = subst (AllByRecursion Reads) (sym all) s.read in
     let is : a ≡ counts (lines text) = counts_is s.taken a s.counted ∙ ap counts (sym all) in
     (ap Ok is ∙ sym (fits text s.short ∙ ap (λ r. account_or r (lines text)) (all_read 1 (lines text) read)), (s.short, read, is))
 

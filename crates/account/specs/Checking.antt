@@ -1,6 +1,6 @@
 -- What checking a text line by line answers. Assumes nothing.
 use Rattle.std.specs.Prelude.{◌≡◌, ℕ, ◌+◌, ◌<◌, ◌≤◌, true, cond, ◌⊎◌, List, [], ◌∷◌, ◌++◌, length, is_ok, Some, None, Ok, Err, Option, Result, MatchResult, ◌==◌, nat_le}
-use Rattle.std.specs.List.{AllByRecursion as All}
+use Rattle.std.specs.List.{AllByRecursion}
 use Rattle.grammar.specs.declared.grounds.Ground.TheVariants.{TextTooLong}
 use Rattle.grammar.specs.declared.grounds.LineFault.{LineFault}
 use Rattle.grammar.specs.declared.grounds.Refusal.{Refusal}
@@ -56,7 +56,7 @@ pub record FirstRefused (ls : List (List ℕ)) (r : Refusal) : Type 0 where
   pub after : List (List ℕ)
   pub fault : LineFault
   pub whole : ls ≡ before ++ bad ∷ after
-  pub read : All (λ l. is_ok (line_reading l) ≡ true) before
+  pub read : AllByRecursion (λ l. is_ok (line_reading l) ≡ true) before
   pub refused : line_reading bad ≡ Err fault
   pub shown : r ≡ in_line (length before + 1) fault
 
@@ -64,5 +64,5 @@ pub record FirstRefused (ls : List (List ℕ)) (r : Refusal) : Type 0 where
 abbrev pub CheckedText : List ℕ → Result Account Refusal → Type 0
 CheckedText text r =
     MatchResult r
-    (λ a. (length text ≤ 32768) × All (λ l. is_ok (line_reading l) ≡ true) (lines text) × (a ≡ counts (lines text)))
+    (λ a. (length text ≤ 32768) × AllByRecursion (λ l. is_ok (line_reading l) ≡ true) (lines text) × (a ≡ counts (lines text)))
     (λ e. ((32768 < length text) × (e ≡ record { reason = TextTooLong; line = 0; byte = 0 })) ⊎ ((length text ≤ 32768) × FirstRefused (lines text) e))

@@ -1,6 +1,6 @@
 -- The laws of cutting at a separator: words and lines. Assumes nothing.
 use Rattle.std.proofs.Common.{◌≡◌, ℕ, ◌+◌, ◌-◌, ◌<◌, ◌≤◌, true, false, eqb, ltb, leb, ◌≢◌, List, [], ◌∷◌, ◌++◌, map, length, drop, sym, refl, ap, ◌∙◌, ⊎_elim, append_assoc, append-nil, arith, length-drop, drop-drop}
-use Rattle.std.specs.List.{between, AllByRecursion as All}
+use Rattle.std.specs.List.{between, AllByRecursion}
 use Rattle.std.proofs.lemmas.List.{take_at, drop_at, drop_all, length_push}
 use Rattle.std.proofs.lemmas.Bool.Decides.{nat_tests, eqb_tells, leb_tells}
 use Rattle.grammar.specs.Objections.{spaced, SplitAtSpaces}
@@ -10,7 +10,7 @@ use Rattle.grammar.specs.Words.{Word, word, with_places, words_of}
 
 -- no piece holds the separator
 abbrev Apart : ℕ → List (List ℕ) → Type 0
-Apart s ps = All (λ p. All (λ b. b ≢ s) p) ps
+Apart s ps = AllByRecursion (λ p. AllByRecursion (λ b. b ≢ s) p) ps
 
 glue_apart : (s b : ℕ) (ps : List (List ℕ)) → b ≢ s → Apart s ps → Apart s (onto_first b ps)
 glue_apart s b [] ne h = ((ne, tt), tt)
@@ -69,7 +69,7 @@ placed_bytes : (k : ℕ) (ps : List (List ℕ)) → map (λ w. w.bytes) (with_pl
 placed_bytes k [] = refl
 placed_bytes k (p ∷ ps) = ap (λ l. p ∷ l) (placed_bytes (k + length p + 1) ps)
 
-placed_apart : (k : ℕ) (ps : List (List ℕ)) → Apart 32 ps → All (λ w. All (λ b. b ≢ 32) w.bytes) (with_places k ps)
+placed_apart : (k : ℕ) (ps : List (List ℕ)) → Apart 32 ps → AllByRecursion (λ w. AllByRecursion (λ b. b ≢ 32) w.bytes) (with_places k ps)
 placed_apart k [] h = tt
 placed_apart k (p ∷ ps) h = (h.0, placed_apart (k + length p + 1) ps h.1)
 
@@ -83,7 +83,7 @@ standing line from p rest two e =
     let n : from + length p - from ≡ length p = omega arith in
     (omega arith, rw (i, n, e, take_at p rest (length p) refl))
 
-placed_standing : (line : List ℕ) (from : ℕ) (ps : List (List ℕ)) → 2 ≤ from → spaced ps ≡ drop from line → All (Standing line) (with_places (from + 1) ps)
+placed_standing : (line : List ℕ) (from : ℕ) (ps : List (List ℕ)) → 2 ≤ from → spaced ps ≡ drop from line → AllByRecursion (Standing line) (with_places (from + 1) ps)
 placed_standing line from [] two e = tt
 placed_standing line from (p ∷ []) two e = (standing line from p [] two (sym e ∙ sym (append-nil p)), tt)
 placed_standing line from (p ∷ (q ∷ ps)) two e =

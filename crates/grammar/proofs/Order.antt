@@ -1,7 +1,7 @@
 -- The first ground in the checking order. Assumes nothing.
 use Rattle.std.proofs.Common.{◌≡◌, ℕ, Bool, true, false, List, [], ◌∷◌, Some, None, Ok, Option, sym, refl, ap, ◌∙◌, subst, inl, inr, arith, MatchOption}
 use Rattle.std.specs.Option.{option_map}
-use Rattle.std.specs.List.{AllByRecursion as All}
+use Rattle.std.specs.List.{AllByRecursion}
 use Rattle.grammar.specs.declared.grounds.Ground.{Ground}
 use Rattle.grammar.specs.declared.grounds.Ground.TheVariants.{TextTooLong, LineTooLong, ByteOutside, NoMark, NotAName, WordCount, NameTaken, NotFound, ModelFull, SourceFull, NoSuchNumber, NoSuchGoal, OfferNotOpen, PageTooShort, AreaTooShort, GoalNotMet}
 use Rattle.grammar.specs.declared.grounds.LineFault.{LineFault}
@@ -18,7 +18,7 @@ use Rattle.grammar.proofs.Standing.{Leftmost, each_ground, name_decides, kind_fr
 
 module _ (st : Ground → Option ℕ) (P : Ground → ℕ → Type 0) (each : (g : Ground) → Leftmost (st g) (P g)) where
   abbrev First : List Ground → Option LineFault → Type 0
-  First gs o = MatchOption o (All (λ g. st g ≡ None) gs) (FirstInOrder P gs)
+  First gs o = MatchOption o (AllByRecursion (λ g. st g ≡ None) gs) (FirstInOrder P gs)
 
   after : (g : Ground) (gs : List Ground) (o : Option LineFault) → st g ≡ None → Leftmost None (P g) → First gs o → First (g ∷ gs) o
   after g gs None e h r = (e, r)
@@ -33,7 +33,7 @@ module _ (st : Ground → Option ℕ) (P : Ground → ℕ → Type 0) (each : (g
   first_law [] = tt
   first_law (g ∷ gs) = this g gs (st g) refl (each g) (first_law gs)
 
-every_ground : (Q : Ground → Type 0) → All Q checking_order → (g : Ground) → Q g
+every_ground : (Q : Ground → Type 0) → AllByRecursion Q checking_order → (g : Ground) → Q g
 every_ground Q h TextTooLong = h.0
 every_ground Q h LineTooLong = h.1.0
 every_ground Q h ByteOutside = h.1.1.0
@@ -56,11 +56,11 @@ every_ground Q h GoalNotMet = h.1.1.1.1.1.1.1.1.1.1.1.1.1.1.1.0
 free_of : (o : Option ℕ) (P : ℕ → Type 0) → o ≡ None → Leftmost o P → (k : ℕ) → P k → ⊥
 free_of o P e h = subst (λ x. Leftmost x P) e h
 
-all_names : (ws : List Word) → odd_name ws ≡ None → All (λ w. Name w.bytes) ws
+all_names : (ws : List Word) → odd_name ws ≡ None → AllByRecursion (λ w. Name w.bytes) ws
 all_names [] e = tt
 all_names (w ∷ ws) e = by (all_names ws) (is_name w.bytes) refl
   where
-    by : (odd_name ws ≡ None → All (λ v. Name v.bytes) ws) → (b : Bool) → is_name w.bytes ≡ b → All (λ v. Name v.bytes) (w ∷ ws)
+    by : (odd_name ws ≡ None → AllByRecursion (λ v. Name v.bytes) ws) → (b : Bool) → is_name w.bytes ≡ b → AllByRecursion (λ v. Name v.bytes) (w ∷ ws)
     by rest true t = ((name_decides w.bytes).0 t, rest (sym (rw t) ∙ e))
     by rest false t = absurd (let z : Some w.start ≡ None = sym (rw t) ∙ e in let y : ◌≡◌ {A = ℕ} 0 1 = cc in omega arith)
 
@@ -76,7 +76,7 @@ empty_line : (line : List ℕ) → line_kind line ≡ None → ((k : ℕ) → Ap
 empty_line [] e free = refl
 empty_line (b ∷ bs) e free = absurd (free 0 ((omega arith, unmarked (b ∷ bs) e), refl))
 
-enters : (line : List ℕ) (m : Option Kind) → line_kind line ≡ m → All (λ g. stands line g ≡ None) checking_order → Enters line (option_map (λ kind. record { kind = kind; words = line_words line }) m)
+enters : (line : List ℕ) (m : Option Kind) → line_kind line ≡ m → AllByRecursion (λ g. stands line g ≡ None) checking_order → Enters line (option_map (λ kind. record { kind = kind; words = line_words line }) m)
 enters line None k h = empty_line line k (free_of (stands line NoMark) (Applies line NoMark) (every_ground (λ g. stands line g ≡ None) h NoMark) (each_ground line NoMark))
 enters line (Some kind) k h = (
   mark_from_kind line kind k,
@@ -90,7 +90,7 @@ pub by_grounds : (line : List ℕ) → ByGrounds line (line_reading line)
 unfolding line_reading
 by_grounds line = by (first_fault (stands line) checking_order) (first_law (stands line) (Applies line) (each_ground line) checking_order)
   where
-    by : (o : Option LineFault) → MatchOption o (All (λ g. stands line g ≡ None) checking_order) (FirstInOrder (Applies line) checking_order) → ByGrounds line (answer o (entry line))
+    by : (o : Option LineFault) → MatchOption o (AllByRecursion (λ g. stands line g ≡ None) checking_order) (FirstInOrder (Applies line) checking_order) → ByGrounds line (answer o (entry line))
     by None h = (λ g. free_of (stands line g) (Applies line g) (every_ground (λ x. stands line x ≡ None) h g) (each_ground line g), enters line (line_kind line) refl h)
     by (Some x) h = h
 

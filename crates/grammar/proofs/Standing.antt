@@ -1,6 +1,6 @@
 -- Each ground by the computing definition and in words: they agree. Assumes nothing.
 use Rattle.std.proofs.Common.{◌≡◌, ℕ, zero, suc, ◌+◌, ◌<◌, ◌≤◌, Bool, true, false, cond, ◌&&◌, ◌||◌, eqb, ltb, leb, ◌⊎◌, List, [], ◌∷◌, length, get_or, drop, is_some, Some, None, Decides, Option, sym, refl, ap, ◌∙◌, subst, inl, inr, ⊎_elim, arith, MatchOption}
-use Rattle.std.specs.List.{AllByRecursion as All}
+use Rattle.std.specs.List.{AllByRecursion}
 use Rattle.std.proofs.lemmas.Bool.Decides.{nat_tests, eqb_tells, leb_tells, Decides-eqb, Decides-and, Decides-or, Decides-like}
 use Rattle.std.proofs.ByRecursion.{Decides-by_and}
 use Rattle.grammar.specs.declared.grounds.Ground.{Ground}
@@ -63,7 +63,7 @@ byte_decides b =
     leb_decides : (a b : ℕ) → Decides (leb a b) (a ≤ b)
     leb_decides a b = (λ e. grind (arith, nat_tests, leb_tells a b), λ l. grind (arith, nat_tests, leb_tells a b))
 
-bytes_decide : (bs : List ℕ) → Decides (all_name_bytes bs) (All NameByte bs)
+bytes_decide : (bs : List ℕ) → Decides (all_name_bytes bs) (AllByRecursion NameByte bs)
 bytes_decide bs = Decides-by_and is_name_byte NameByte all_name_bytes byte_decides refl (λ _ _. refl) bs
 
 short_decides : (n : ℕ) → Decides (leb n 7) (n ≤ 7)
@@ -77,7 +77,7 @@ name_decides (b ∷ bs) =
     (λ n.
     let f : n.first ≡ b = cc in
     let r : n.rest ≡ bs = cc in
-    (subst Letter f n.letter, (subst (λ l. length l ≤ 7) r n.short, subst (All NameByte) r n.others)))
+    (subst Letter f n.letter, (subst (λ l. length l ≤ 7) r n.short, subst (AllByRecursion NameByte) r n.others)))
     (Decides-and (is_letter b) (leb (length bs) 7 && all_name_bytes bs) (letter_decides b) (Decides-and (leb (length bs) 7) (all_name_bytes bs) (short_decides (length bs)) (bytes_decide bs)))
 
 -- ---- marks

@@ -1,6 +1,6 @@
 -- The rules of a line in words: when each ground stands, by itself, and what an accepted line is. Assumes nothing.
 use Rattle.std.specs.Prelude.{◌≡◌, ℕ, ◌+◌, ◌-◌, ◌<◌, ◌≤◌, ◌≢◌, ◌⊎◌, List, [], ◌∷◌, ◌++◌, map, length, drop, Option, Result, MatchOption, MatchResult, slice_index, slice_index_or}
-use Rattle.std.specs.List.{between, AllByRecursion as All}
+use Rattle.std.specs.List.{between, AllByRecursion}
 use Rattle.grammar.specs.declared.grounds.Ground.{Ground}
 use Rattle.grammar.specs.declared.grounds.Ground.TheVariants.{TextTooLong, LineTooLong, ByteOutside, NoMark, NotAName, WordCount, NameTaken, NotFound, ModelFull, SourceFull, NoSuchNumber, NoSuchGoal, OfferNotOpen, PageTooShort, AreaTooShort, GoalNotMet}
 use Rattle.grammar.specs.declared.grounds.LineFault.{LineFault}
@@ -24,7 +24,7 @@ pub record Name (w : List ℕ) : Type 0 where
   pub whole : w ≡ first ∷ rest
   pub letter : Letter first
   pub short : length rest ≤ 7
-  pub others : All NameByte rest
+  pub others : AllByRecursion NameByte rest
 
 -- the line begins with the character of a kind and a colon
 abbrev pub Marked : List ℕ → Kind → Type 0
@@ -79,16 +79,16 @@ spaced (p ∷ (q ∷ ps)) = p ++ 32 ∷ spaced (q ∷ ps)
 -- the line behind its mark, cut wherever a space stands
 pub record SplitAtSpaces (line : List ℕ) (ws : List Word) : Type 0 where
   pub joined : spaced (map (λ w. w.bytes) ws) ≡ drop 2 line
-  pub spaceless : All (λ w. All (λ b. b ≢ 32) w.bytes) ws
+  pub spaceless : AllByRecursion (λ w. AllByRecursion (λ b. b ≢ 32) w.bytes) ws
   pub none : (ws ≡ [] → drop 2 line ≡ []) × (drop 2 line ≡ [] → ws ≡ [])
-  pub places : All (λ w. (3 ≤ w.start) × (between (w.start - 1) (w.start - 1 + length w.bytes) line ≡ w.bytes)) ws
+  pub places : AllByRecursion (λ w. (3 ≤ w.start) × (between (w.start - 1) (w.start - 1 + length w.bytes) line ≡ w.bytes)) ws
 
 -- An empty line enters nothing. Any other has the kind of its mark; its words are those after the mark, all of them names,
 -- and a comment has none.
 abbrev pub Enters : List ℕ → Option Entry → Type 0
 Enters line o =
     MatchOption o (line ≡ [])
-    (λ e. Marked line e.kind × (HasWords line → e.words ≡ words_of line) × (Marked line Comment → e.words ≡ []) × All (λ w. Name w.bytes) e.words)
+    (λ e. Marked line e.kind × (HasWords line → e.words ≡ words_of line) × (Marked line Comment → e.words ≡ []) × AllByRecursion (λ w. Name w.bytes) e.words)
 
 -- A line is accepted where no ground stands, and refused on the first that stands.
 abbrev pub ByGrounds : List ℕ → Result (Option Entry) LineFault → Type 0

@@ -1,6 +1,6 @@
 -- The grounds for a refusal: their numbers, and the order in which they are checked. Assumes nothing.
 use Rattle.std.specs.Prelude.{◌≡◌, ℕ, ◌≤◌, List, [], ◌∷◌, ◌++◌, Some, None, Option}
-use Rattle.std.specs.List.{AllByRecursion as All}
+use Rattle.std.specs.List.{AllByRecursion}
 use Rattle.grammar.specs.declared.grounds.Ground.{Ground}
 use Rattle.grammar.specs.declared.grounds.Ground.TheVariants.{TextTooLong, LineTooLong, ByteOutside, NoMark, NotAName, WordCount, NameTaken, NotFound, ModelFull, SourceFull, NoSuchNumber, NoSuchGoal, OfferNotOpen, PageTooShort, AreaTooShort, GoalNotMet}
 use Rattle.grammar.specs.declared.grounds.LineFault.{LineFault}
@@ -47,6 +47,6 @@ pub record FirstInOrder (Applies : Ground → ℕ → Type 0) (order : List Grou
   pub earlier : List Ground
   pub later : List Ground
   pub whole : order ≡ earlier ++ f.reason ∷ later
-  pub quiet : All (λ g. (k : ℕ) → Applies g k → ⊥) earlier
+  pub quiet : AllByRecursion (λ g. (k : ℕ) → Applies g k → ⊥) earlier
   pub stands : Applies f.reason f.byte
   pub leftmost : (k : ℕ) → Applies f.reason k → f.byte ≤ k

@@ -1,6 +1,6 @@
 -- A text as lines. Assumes nothing.
 use Rattle.std.specs.Prelude.{◌≡◌, ℕ, ◌+◌, ◌<◌, ◌≤◌, ◌≢◌, List, [], ◌∷◌, ◌++◌, length, drop, Option, MatchOption}
-use Rattle.std.specs.List.{AllByRecursion as All, between}
+use Rattle.std.specs.List.{AllByRecursion, between}
 use Rattle.grammar.specs.Pieces.{cut_at}
 
 -- a line runs up to the next byte 10 or the end of the text; behind a last byte 10 there is none
@@ -29,7 +29,7 @@ ended (l ∷ ls) = l ++ 10 ∷ ended ls
 
 -- The law of splitting: the lines give the text back, whose last byte 10 may be missing.
 pub record CutIntoLines (text : List ℕ) (ls : List (List ℕ)) : Type 0 where
-  pub unbroken : All (λ l. All (λ b. b ≢ 10) l) ls
+  pub unbroken : AllByRecursion (λ l. AllByRecursion (λ b. b ≢ 10) l) ls
   pub closed : (front : List ℕ) → text ≡ front ++ 10 ∷ [] → ended ls ≡ text
   pub unclosed : (front : List ℕ) (b : ℕ) → b ≢ 10 → text ≡ front ++ b ∷ [] → ended ls ≡ text ++ 10 ∷ []
   pub none : (text ≡ [] → ls ≡ []) × (ls ≡ [] → text ≡ [])

@@ -1,6 +1,6 @@
 -- The digits of a number, written from the last to the first. Assumes nothing.
 use Rattle.std.proofs.Common.{◌≡◌, ℕ, ◌+◌, ◌/◌, ◌%◌, ◌^◌, ◌<◌, ◌≤◌, List, [], ◌∷◌, ◌++◌, length, get_or, drop, set, decimal, sym, ap, ◌∙◌, subst, append_assoc, arith, length-append, length-drop, length-set, rules}
-use Rattle.std.specs.List.{AllByRecursion as All}
+use Rattle.std.specs.List.{AllByRecursion}
 use Rattle.std.proofs.lemmas.Fmt.{decimal_digit, decimal_step, decimal_nonempty, length-decimal-le, first_decimal, digits_decimal, digits_value-decimal}
 use Rattle.std.proofs.lemmas.List.{drop-set}
 use Rattle.std.proofs.lemmas.Str.Parse.{IsNumeralModel, numerals_by_fold}
@@ -34,14 +34,14 @@ place_left n rest start places fits w some =
     let parts = length-append (decimal rest) (drop start places) in
     omega (arith, whole, parts, length-drop start places, w.long, w.low, decimal_nonempty rest (omega (arith, w.small)), length-decimal-le 10 n (omega arith) (omega arith) (omega arith))
 
-own : IsNumeralModel (λ ds. All (λ c. (48 ≤ c) × (c ≤ 57)) ds) (read_on 0)
+own : IsNumeralModel (λ ds. AllByRecursion (λ c. (48 ≤ c) × (c ≤ 57)) ds) (read_on 0)
 own = numerals_by_fold _ (search rules) read_on (search rules)
 
 pub writes_number : (n : ℕ) (ds : List ℕ) → n < 2 ^ 32 → ds ≡ decimal n → WritesNumber n ds
 writes_number n ds fits e =
     let wide : n < 2 ^ 64 = omega arith in
     record {
-      digits = subst (All (λ c. (48 ≤ c) × (c ≤ 57))) (sym e) (digits_decimal own n wide);
+      digits = subst (AllByRecursion (λ c. (48 ≤ c) × (c ≤ 57))) (sym e) (digits_decimal own n wide);
       back = ap (read_on 0) e ∙ digits_value-decimal own n wide;
       leads = λ some z. omega (arith, first_decimal n some wide, sym (ap (λ l. get_or l 0 0) e) ∙ z);
       zero = λ z. e ∙ ap decimal z ∙ decimal_digit 0 (omega arith);
