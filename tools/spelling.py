@@ -1,9 +1,9 @@
 #!/usr/bin/env python3
 """Brings this repository's own definitions and lemmas to the library's spelling: words joined by underscores.
 
-Run once, at the top of a checkout, after the toolchain's own port.py. It changes whole names in specs/, proofs/ and the
-clauses of src/ alone: no function of src/, no string, no input and no output. It refuses to run where a new name is
-already a definition of specs/ or proofs/.
+Run once, at the top of a checkout, after the toolchain's own port.py. It changes whole names with a dash, wherever they
+stand in specs/, proofs/ and src/. No function of src/ and no string has such a name. It refuses to run where a new name
+is already a definition of specs/ or proofs/.
 """
 import pathlib
 import re
