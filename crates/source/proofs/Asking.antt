@@ -1,5 +1,5 @@
 -- What an answer has to be, from what a source stands for. Assumes nothing.
-use Rattle.std.proofs.Common.{◌≡◌, ℕ, suc, ◌<◌, ◌≤◌, true, false, Some, None, refl, ⊎_elim, arith}
+use Rattle.std.proofs.Common.{◌≡◌, ℕ, suc, ◌+◌, ◌<◌, ◌≤◌, true, false, Option, Some, None, MatchOption, refl, ⊎_elim, arith}
 use Rattle.std.proofs.lemmas.Bool.{cases_Bool, cases_lt, both_ways}
 use Rattle.std.proofs.lemmas.Bool.Decides.{nat_tests}
 use Rattle.sets.specs.Members.{Lowest}
@@ -44,3 +44,10 @@ next_few M b i j x h =
     (λ (e : numbered M i j ≡ true). let w = b.within i x (h.lowest e).in_it in let f = b.few_unknowns in grind (arith, nat_tests))
     (λ (e : numbered M i j ≡ false). let z : ◌≡◌ {A = ℕ} 0 1 = cc (h.outside e) in absurd (omega arith))
     (cases_Bool (numbered M i j))
+
+-- what a search from j up to the last unknown finds is what comes next
+pub next_by_search : (M : Meaning) → WithinLimits M → (i j e : ℕ) (r : Option ℕ) → 1 ≤ j → e ≡ M.n + 1
+    → MatchOption r ((k : ℕ) → j ≤ k → k < e → M.holds i k ≡ false) (λ x. (j ≤ x) × (x < e) × (M.holds i x ≡ true) × ((k : ℕ) → j ≤ k → k < x → M.holds i k ≡ false))
+    → NextUnknown M i j r
+next_by_search M b i j e None p q h = next_none M b i j (λ k l m. h k l (omega arith))
+next_by_search M b i j e (Some x) p q h = next_found M b i j x p (record { from = h.0; in_it = h.2; none_before = h.3 })

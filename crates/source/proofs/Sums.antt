@@ -1,5 +1,6 @@
 -- Counts and sums: their steps, bounds and order. Assumes nothing.
-use Rattle.std.proofs.Common.{◌≡◌, ℕ, zero, suc, ◌+◌, ◌*◌, ◌<◌, ◌≤◌, Bool, true, false, cond, ◌||◌, eqb, sym, refl, ap, ◌∙◌, ⊎_elim, mul-suc, add-one, arith}
+use Rattle.std.proofs.Common.{◌≡◌, ℕ, zero, suc, ◌+◌, ◌*◌, ◌<◌, ◌≤◌, Bool, true, false, cond, ◌||◌, eqb, length, sym, refl, ap, ◌∙◌, ⊎_elim, mul-suc, add-one, arith}
+use Rattle.std.specs.List.{filter, range_with_len}
 use Rattle.std.proofs.lemmas.Bool.{cases_Bool, cases_eq, cases_lt, both_ways, eq-eqb, ne_eqb}
 use Rattle.std.proofs.lemmas.Bool.Decides.{nat_tests}
 use Rattle.sets.specs.Counting.{how_many, sum_over}
@@ -144,3 +145,17 @@ how_many_add (suc k) y S e a b =
     let r = how_many_add k y S e a (omega arith) in
     rw n (omega arith))
     (cases_eq y (suc k))
+
+-- counted from the front, as a range goes
+how_many_on : (S : ℕ → Bool) (d a : ℕ) → how_many a S + length (filter S (range_with_len (a + 1) d)) ≡ how_many (a + d) S
+how_many_on S zero a = let e : a + 0 ≡ a = omega arith in rw e (omega arith)
+how_many_on S (suc d) a =
+    let e : a + suc d ≡ (a + 1) + d = omega arith in
+    rw e (sym (filtered (S (a + 1)) refl) ∙ how_many_on S d (a + 1))
+  where
+    filtered : (b : Bool) → S (a + 1) ≡ b → how_many (a + 1) S + length (filter S (range_with_len (a + 1 + 1) d)) ≡ how_many a S + length (filter S (range_with_len (a + 1) (suc d)))
+    filtered true e = let s = rw e at (how_many_step a S) in rw e (omega arith)
+    filtered false e = let s = rw e at (how_many_step a S) in rw e (omega arith)
+
+pub how_many-range : (S : ℕ → Bool) (n : ℕ) → length (filter S (range_with_len 1 n)) ≡ how_many n S
+how_many-range S n = let z = how_many_none S in let r = how_many_on S n 0 in let e : 0 + n ≡ n = omega arith in omega (arith, ap (λ k. how_many k S) e)

@@ -13,11 +13,11 @@ pub enum SourceFault {
     NoSuchUnknown = 11,
 }
 
-impl SourceFault {
+impl From<SourceFault> for u32 {
     /// The number of the refusal.
-    pub fn number(self) -> u32
-        ensures { result ≡ fault_number self }
-    {
-        self as u32
+    ghost from_gives = { λ fault n. n ≡ fault_number fault };
+
+    fn from(fault: SourceFault) -> u32 {
+        fault as u32
     }
 }

@@ -62,17 +62,20 @@ pub trait Growing: Source {
     const ROOM: usize;
 
     /// The room, as promises speak of it.
-    ghost room: { ℕ };
+    ghost ROOM: { ℕ };
 
     /// How many pairs it takes up at most.
     fn capacity() -> usize
-        ensures { result ≡ room };
+        ensures { result ≡ ROOM }
+    {
+        Self::ROOM
+    }
 
     /// Whether `more` pairs can be taken up.
     fn room_for(&self, more: usize) -> bool
     where
         Self: Sized,
-        ensures { result ≡ has_room room (Self.Source.means self.now) more }
+        ensures { result ≡ has_room ROOM (Self.Source.means self.now) more }
     {
         has_room(self, Self::capacity(), more)
     }
@@ -87,14 +90,14 @@ pub trait Growing: Source {
 
     /// One equation more, which holds just `unknowns`.
     fn add_equation(&mut self, unknowns: UnknownSet) -> Result<(), SourceFault>
-        ensures { AddsBy (row_refusal room (Self.Source.means self.old) (member_of unknowns.bits)) (Self.Source.means self.old) (with_row (Self.Source.means self.old) (member_of unknowns.bits)) (Self.Source.means self.new) result };
+        ensures { AddsBy (row_refusal ROOM (Self.Source.means self.old) (member_of unknowns.bits)) (Self.Source.means self.old) (with_row (Self.Source.means self.old) (member_of unknowns.bits)) (Self.Source.means self.new) result };
 }
 
 /// Carries out one change; a refused one leaves the source as it was.
 pub fn apply<G: Growing>(source: &mut G, change: Change) -> Result<(), SourceFault>
-    ensures answer { Decided (change_refusal G.Growing.room (G.Source.means source.old) change) result }
-    ensures meaning { G.Source.means source.new ≡ changed G.Growing.room (G.Source.means source.old) change }
-    ensures words { Comes G.Growing.room (G.Source.means source.old) change (changed G.Growing.room (G.Source.means source.old) change) }
+    ensures answer { Decided (change_refusal G.Growing.ROOM (G.Source.means source.old) change) result }
+    ensures meaning { G.Source.means source.new ≡ changed G.Growing.ROOM (G.Source.means source.old) change }
+    ensures words { Comes G.Growing.ROOM (G.Source.means source.old) change (changed G.Growing.ROOM (G.Source.means source.old) change) }
 {
     match change {
         Change::Clear => source.clear(),
@@ -107,7 +110,7 @@ pub fn apply<G: Growing>(source: &mut G, change: Change) -> Result<(), SourceFau
 /// Empties a source and carries out the changes one after the other, passing over those that are refused. What the source then stands for depends on
 /// nothing but its room and the changes.
 pub fn replay<G: Growing>(source: &mut G, changes: &[Change])
-    ensures { G.Source.means source.new ≡ after_changes G.Growing.room vacant changes.now }
+    ensures { G.Source.means source.new ≡ after_changes G.Growing.ROOM vacant changes.now }
 {
     source.clear();
     for change in changes {
@@ -117,9 +120,9 @@ pub fn replay<G: Growing>(source: &mut G, changes: &[Change])
 
 /// Carries out the same changes on two sources. If they have one room, they then stand for the same and answer every question alike.
 pub fn replay_both<G: Growing, H: Growing>(first: &mut G, second: &mut H, changes: &[Change])
-    ensures first { G.Source.means first.new ≡ after_changes G.Growing.room vacant changes.now }
-    ensures second { H.Source.means second.new ≡ after_changes H.Growing.room vacant changes.now }
-    ensures alike { G.Growing.room ≡ H.Growing.room → AnswerAlike (G.Source.means first.new) (H.Source.means second.new) }
+    ensures first { G.Source.means first.new ≡ after_changes G.Growing.ROOM vacant changes.now }
+    ensures second { H.Source.means second.new ≡ after_changes H.Growing.ROOM vacant changes.now }
+    ensures alike { G.Growing.ROOM ≡ H.Growing.ROOM → AnswerAlike (G.Source.means first.new) (H.Source.means second.new) }
 {
     replay(first, changes);
     replay(second, changes);

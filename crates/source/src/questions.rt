@@ -26,17 +26,12 @@ pub trait Source {
     fn pairs(&self) -> usize
         ensures { result ≡ pair_count (means self.now) }
     {
-        let mut count: usize = 0;
-        let equations = self.equations();
         let unknowns = self.unknowns();
-        for i in 0..equations {
-            for j in 0..unknowns {
-                if self.holds(i + 1, j + 1) {
-                    count += 1;
-                }
-            }
+        let mut pairs = 0;
+        for i in 1..self.equations() + 1 {
+            pairs += (1..unknowns + 1).filter(|&j| self.holds(i, j)).count();
         }
-        count
+        pairs
     }
 
     /// The lowest unknown that the equation holds from `unknown` on; none if there is none, and for 0 and past the end.
@@ -46,12 +41,7 @@ pub trait Source {
         if unknown == 0 {
             return None;
         }
-        for j in unknown..self.unknowns() + 1 {
-            if self.holds(equation, j) {
-                return Some(j);
-            }
-        }
-        None
+        (unknown..self.unknowns() + 1).find(|&j| self.holds(equation, j))
     }
 }
 

@@ -6,7 +6,7 @@ use Rattle.source.proofs.growing.replay.Goals as goal
 
 pub loop-change-preserved : goal.loop-change-preserved
 loop-change-preserved g c =
-    let room = g.G.Growing.room in
+    let room = g.G.Growing.ROOM in
     let M = g.G.Source.means c.loop-change.source in
     let i = c.loop-change.change-index in
     let cs = c.args.changes.now in
@@ -16,6 +16,6 @@ loop-change-preserved g c =
 
 pub returns : goal.returns
 returns g c =
-    let room = g.G.Growing.room in
+    let room = g.G.Growing.ROOM in
     let M = g.G.Source.means c.loop-change.source in
     sym (at_drop_all (after_changes room M) c.args.changes.now c.loop-change.change-index (omega arith)) ∙ c.loop-change.invariant

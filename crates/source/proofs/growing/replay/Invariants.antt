@@ -4,5 +4,5 @@ use Rattle.source.proofs.growing.replay.Given as goal
 
 abbrev pub invariant-loop-change : goal.invariant-loop-change
 invariant-loop-change g l =
-    after_changes g.G.Growing.room (g.G.Source.means l.source) (drop l.change-index l.changes) ≡
-    after_changes g.G.Growing.room vacant l.changes
+    after_changes g.G.Growing.ROOM (g.G.Source.means l.source) (drop l.change-index l.changes) ≡
+    after_changes g.G.Growing.ROOM vacant l.changes

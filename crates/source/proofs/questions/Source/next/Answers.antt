@@ -1,9 +1,11 @@
-use Rattle.std.proofs.Common.{sym, ◌∙◌, arith}
-use Rattle.source.proofs.Asking.{next_found}
+use Rattle.std.proofs.Common.{◌≡◌, ◌+◌, true, false, arith, rules}
+use Rattle.std.proofs.lemmas.Iterator.{first_from_Range}
+use Rattle.source.proofs.Asking.{next_by_search}
 use Rattle.source.proofs.questions.Source.next.Goals as goal
 
-pub returns-then-holds : goal.returns-then-holds
-returns-then-holds g c =
+pub returns : goal.returns
+returns g c =
     let M = g.Self.Source.means c.args.self.now in
-    next_found M (g.Self.Source.bounded c.args.self.now) c.args.equation c.args.unknown c.loop-j.j (omega arith)
-    (record { from = omega arith; in_it = sym c.holds.ensures ∙ c.if-holds.true; none_before = c.loop-j.invariant })
+    let i = c.args.equation in
+    next_by_search M (g.Self.Source.bounded c.args.self.now) i c.args.unknown (c.unknowns.result + 1) c.find.result (omega arith) (omega arith)
+    (first_from_Range _ _ _ _ (λ j. M.holds i j ≡ true) (λ j. M.holds i j ≡ false) c.find.ensures.ran (λ x q k. search rules) (λ x q k. search rules))
