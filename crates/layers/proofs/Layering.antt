@@ -1,15 +1,15 @@
 -- Layers: sensors one by one, and a source read the other way. Assumes nothing.
-use Rattle.std.proofs.Common.{◌≡◌, ℕ, suc, ◌+◌, ◌-◌, ◌<◌, ◌≤◌, Bool, true, false, cond, eqb, List, [], ◌∷◌, ◌++◌, length, get_or, sym, refl, ap, ◌∙◌, ⊎_elim, arith, length-append}
+use Rattle.std.proofs.Common.{◌≡◌, ℕ, suc, ◌+◌, ◌-◌, ◌<◌, ◌≤◌, Bool, true, false, cond, ◌&&◌, eqb, ltb, List, [], ◌∷◌, ◌++◌, length, get_or, is_some, Some, None, sym, refl, ap, ◌∙◌, ⊎_elim, arith, length-append}
+use Rattle.std.specs.List.{filter, range_with_len}
 use Rattle.std.proofs.lemmas.List.{get_or_past, get_or_append_left, get_or-append_right}
-use Rattle.std.proofs.lemmas.Bool.{cases_lt, cases_order, eq-eqb}
+use Rattle.std.proofs.lemmas.Bool.{cases_lt, cases_order, eq-eqb, lt-ltb}
 use Rattle.std.proofs.lemmas.Bool.Decides.{nat_tests}
 use Rattle.sets.specs.Counting.{one_of, how_many}
-use Rattle.sets.specs.Members.{Lowest}
 use Rattle.source.specs.Growth.{with_row}
-use Rattle.layers.specs.Layers.{with_sensors, transpose_of, only}
+use Rattle.layers.specs.Layers.{with_sensors, sensed, transpose_of, only}
 use Rattle.source.specs.Meaning.{Meaning, WithinLimits, pair_count, pairs_to}
 use Rattle.source.proofs.Asking.{none_outside, same_meaning}
-use Rattle.source.proofs.Sums.{how_many_one, pairs_to_step, pairs_to_same, pairs_swapped}
+use Rattle.source.proofs.Sums.{how_many_one, pairs_to_same, pairs_to-range, pairs_swapped}
 
 none_after : (M : Meaning) → WithinLimits M → (i j : ℕ) → M.m < i → M.holds i j ≡ false
 none_after M b i j h = none_outside M b i j (grind (arith, nat_tests))
@@ -50,23 +50,21 @@ pub pairs_below : (M : Meaning) (xs : List ℕ) → pairs_to (with_sensors M xs)
 pairs_below M xs = pairs_to_same (with_sensors M xs) M refl M.m (λ i j h. grind (arith, nat_tests))
 
 -- a sensor has one pair, or none
-pub sensor_pairs : (M : Meaning) (xs : List ℕ) (k : ℕ)
-    → how_many M.n ((with_sensors M xs).holds (M.m + k + 1)) ≡ cond ((with_sensors M xs).holds (M.m + k + 1) (get_or xs k 0)) 1 0
-sensor_pairs M xs k =
-    let s : M.m + k + 1 - M.m - 1 ≡ k = omega arith in
-    how_many_one M.n (get_or xs k 0) ((with_sensors M xs).holds (M.m + k + 1)) (λ j h. grind (arith, nat_tests, ap (λ d. get_or xs d 0) s)) (λ h. grind (arith, nat_tests, ap (λ d. get_or xs d 0) s))
+sensor_pairs : (M : Meaning) (xs : List ℕ) (i : ℕ) → M.m < i → how_many M.n ((with_sensors M xs).holds i) ≡ cond (is_some (sensed M xs i)) 1 0
+sensor_pairs M xs i l =
+    let x = get_or xs (i - M.m - 1) 0 in
+    let h = (with_sensors M xs).holds i in
+    how_many_one M.n x h (λ j e. grind (arith, nat_tests)) (λ e. grind (arith, nat_tests)) ∙ ap (λ b. cond b 1 0) (sym (told (h x) (lt-ltb M.m i l)))
+  where
+    told : (b : Bool) → ltb M.m i ≡ true → is_some (cond (ltb M.m i && b) (Some (get_or xs (i - M.m - 1) 0)) None) ≡ b
+    told true e = rw e refl
+    told false e = rw e refl
 
-pub sensor_lowest : (M : Meaning) (xs : List ℕ) (i j x : ℕ) → M.m < i → x ≡ get_or xs (i - M.m - 1) 0 → j ≤ x → (with_sensors M xs).holds i x ≡ true
-    → Lowest ((with_sensors M xs).holds i) j x
-sensor_lowest M xs i j x a e l h = record { from = l; in_it = h; none_before = λ k p q. grind (arith, nat_tests) }
-
--- one sensor more counted
-pub sensor_counted : (M : Meaning) (xs : List ℕ) (first k x pairs : ℕ) (b : Bool) → first ≡ M.m → pairs ≡ pairs_to (with_sensors M xs) (first + k)
-    → x ≡ get_or xs k 0 → b ≡ (with_sensors M xs).holds (first + k + 1) x → pairs + cond b 1 0 ≡ pairs_to (with_sensors M xs) (first + (k + 1))
-sensor_counted M xs first k x pairs b f e v h =
-    let W = with_sensors M xs in
-    let a : (M.m + k) + 1 ≡ first + (k + 1) = omega arith in
-    let u : pairs ≡ pairs_to W (M.m + k) = e ∙ ap (λ i. pairs_to W (i + k)) f in
-    let t : b ≡ W.holds (M.m + k + 1) (get_or xs k 0) = h ∙ ap (λ i. W.holds (i + k + 1) x) f ∙ ap (W.holds (M.m + k + 1)) v in
-    ap (λ p. p + cond b 1 0) u ∙ ap (λ z. pairs_to W (M.m + k) + cond z 1 0) t ∙ ap (λ z. pairs_to W (M.m + k) + z) (sym (sensor_pairs M xs k)) ∙
-    sym (pairs_to_step W (M.m + k)) ∙ ap (pairs_to W) a
+pub sensors_counted : (M : Meaning) → WithinLimits M → (xs : List ℕ)
+    → pair_count M + length (filter (λ i. is_some (sensed M xs i)) (range_with_len (M.m + 1) ((with_sensors M xs).m - M.m))) ≡ pair_count (with_sensors M xs)
+sensors_counted M b xs =
+    let few = b.few_equations in
+    let e : M.m + ((with_sensors M xs).m - M.m) ≡ (with_sensors M xs).m = omega arith in
+    ap (λ n. n + length (filter (λ i. is_some (sensed M xs i)) (range_with_len (M.m + 1) ((with_sensors M xs).m - M.m)))) (sym (pairs_below M xs))
+    ∙ pairs_to-range (with_sensors M xs) (λ i. is_some (sensed M xs i)) ((with_sensors M xs).m - M.m) M.m (sensor_pairs M xs)
+    ∙ ap (pairs_to (with_sensors M xs)) e

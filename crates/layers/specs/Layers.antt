@@ -1,5 +1,5 @@
 -- What the layers over a source stand for. Assumes nothing.
-use Rattle.std.specs.Prelude.{◌≡◌, ℕ, ◌+◌, ◌-◌, min, Bool, cond, ◌&&◌, ◌||◌, List, [], ◌∷◌, ◌++◌, length, take, Some, None, Option, Result, MatchResult, ◌==◌, nat_le, slice_index}
+use Rattle.std.specs.Prelude.{◌≡◌, ℕ, ◌+◌, ◌-◌, min, Bool, cond, ◌&&◌, ◌||◌, List, [], ◌∷◌, ◌++◌, length, Some, None, Option, Result, MatchResult, ◌==◌, nat_le, nat_lt, slice_index}
 use Rattle.sets.specs.Counting.{one_of}
 use Rattle.source.specs.declared.faults.SourceFault.{SourceFault}
 use Rattle.source.specs.declared.faults.SourceFault.TheVariants.{Limit, NoSuchUnknown}
@@ -20,7 +20,12 @@ with_sensors M xs =
 
 -- the unknowns that a layer's sensors stand on
 abbrev pub sensors_of : {S : Type 0} → Sensors S → List ℕ
-sensors_of s = take s.count s.on
+sensors_of s = s.on.items
+
+-- the unknown that equation i behind those of M holds by its sensor, if it holds one
+abbrev pub sensed : Meaning → List ℕ → ℕ → Option ℕ
+sensed M xs i =
+    let x = slice_index xs (i - M.m - 1) in cond (nat_lt M.m i && (with_sensors M xs).holds i x) (Some x) None
 
 -- what a sensor layer stands for, by what the source below does
 abbrev pub sensors_mean : {S : Type 0} → (S → Meaning) → Sensors S → Meaning

@@ -1,29 +1,15 @@
 //! Sensors behind the equations of a source.
-ghost use Rattle.std.specs.Prelude.{◌≡◌, [], slice_index};
+ghost use Rattle.std.specs.Prelude.{◌≡◌, []};
 ghost use Rattle.layers.specs.Bounds.{sensors_bounded};
-ghost use Rattle.layers.specs.Layers.{sensors_of, sensors_mean, AddsSensor};
+ghost use Rattle.layers.specs.Layers.{sensors_of, sensors_mean, sensed, AddsSensor};
 
 use crate::sensors::Sensors;
+use arrayvec::ArrayVec;
 use source::faults::SourceFault;
 use source::questions::Source;
 
-/// The most sensors that a layer takes up.
-const MOST_SENSORS: usize = 16;
-
 /// The most equations that a source has.
 const MOST_EQUATIONS: usize = 128;
-
-impl<S> Sensors<S> {
-    /// The unknown that sensor number `index`, from 0, stands on; 0 if there is no such sensor.
-    fn unknown_at(&self, index: usize) -> usize
-        ensures { result ≡ slice_index (sensors_of self.now) index }
-    {
-        if index >= self.count {
-            return 0;
-        }
-        self.on[index]
-    }
-}
 
 impl<S: Source> Sensors<S> {
     /// The source, with no sensor yet.
@@ -34,8 +20,7 @@ impl<S: Source> Sensors<S> {
     {
         Sensors {
             below: source,
-            on: [0; MOST_SENSORS],
-            count: 0,
+            on: ArrayVec::new(),
         }
     }
 
@@ -43,22 +28,25 @@ impl<S: Source> Sensors<S> {
     pub fn add(&mut self, unknown: usize) -> Result<(), SourceFault>
         ensures { AddsSensor S.Source.means self.old unknown self.new result }
     {
-        let at = self.count;
-        if at >= MOST_SENSORS {
+        if self.on.is_full() || self.equations() >= MOST_EQUATIONS {
             return Err(SourceFault::Limit);
         }
-        if self.equations() >= MOST_EQUATIONS {
-            return Err(SourceFault::Limit);
-        }
-        if unknown == 0 {
+        if unknown == 0 || unknown > self.unknowns() {
             return Err(SourceFault::NoSuchUnknown);
         }
-        if unknown > self.unknowns() {
-            return Err(SourceFault::NoSuchUnknown);
-        }
-        self.on[at] = unknown;
-        self.count = at + 1;
+        self.on.push(unknown);
         Ok(())
+    }
+
+    /// The unknown that an equation behind those of the source holds, if it holds one.
+    fn measured(&self, equation: usize) -> Option<usize>
+        ensures { result ≡ sensed (S.Source.means self.now.below) (sensors_of self.now) equation }
+    {
+        let unknown = *self
+            .on
+            .get(equation.checked_sub(self.below.equations() + 1)?)?;
+        let is_held = equation <= MOST_EQUATIONS && unknown != 0 && unknown <= self.unknowns();
+        is_held.then_some(unknown)
     }
 }
 
@@ -68,7 +56,7 @@ impl<S: Source> Source for Sensors<S> {
     ghost bounded = { λ s. sensors_bounded (S.Source.means s.below) (S.Source.bounded s.below) (sensors_of s) };
 
     fn equations(&self) -> usize {
-        (self.below.equations() + self.count).min(MOST_EQUATIONS)
+        (self.below.equations() + self.on.len()).min(MOST_EQUATIONS)
     }
 
     fn unknowns(&self) -> usize {
@@ -76,50 +64,27 @@ impl<S: Source> Source for Sensors<S> {
     }
 
     fn holds(&self, equation: usize, unknown: usize) -> bool {
-        let first = self.below.equations();
-        if equation <= first {
+        if equation <= self.below.equations() {
             return self.below.holds(equation, unknown);
         }
-        if equation > MOST_EQUATIONS {
-            return false;
-        }
-        if unknown == 0 {
-            return false;
-        }
-        if unknown > self.unknowns() {
-            return false;
-        }
-        self.unknown_at(equation - first - 1) == unknown
+        self.measured(equation)
+            .is_some_and(|measured| measured == unknown)
     }
 
     fn pairs(&self) -> usize {
-        let mut pairs = self.below.pairs();
-        let first = self.below.equations();
-        for k in 0..self.equations() - first {
-            let unknown = self.unknown_at(k);
-            if self.holds(first + k + 1, unknown) {
-                pairs += 1;
-            }
-        }
-        pairs
+        let first = self.below.equations() + 1;
+        let sensors = first..self.equations() + 1;
+        self.below.pairs() + sensors.filter(|&i| self.measured(i).is_some()).count()
     }
 
     fn next(&self, equation: usize, unknown: usize) -> Option<usize> {
-        let first = self.below.equations();
-        if equation <= first {
+        if equation <= self.below.equations() {
             return self.below.next(equation, unknown);
         }
         if unknown == 0 {
             return None;
         }
-        let measured = self.unknown_at(equation - first - 1);
-        if measured < unknown {
-            return None;
-        }
-        if self.holds(equation, measured) {
-            Some(measured)
-        } else {
-            None
-        }
+        self.measured(equation)
+            .filter(|&measured| measured >= unknown)
     }
 }

@@ -1,11 +1,12 @@
 //! How sensors are kept.
-ghost use Rattle.std.specs.Prelude.{◌≡◌, ◌≤◌, length};
+use arrayvec::ArrayVec;
+
+/// The most sensors that a layer takes up.
+pub(crate) const MOST_SENSORS: usize = 16;
 
 /// A source with up to 16 sensors behind its equations. A sensor is an equation that holds one unknown.
 #[derive(Drop)]
 pub struct Sensors<S> {
     pub(crate) below: S,
-    pub(crate) on: [usize; 16],
-    pub(crate) count: usize,
-    ghost few: { (count ≤ 16) × (length on ≡ 16) },
+    pub(crate) on: ArrayVec<usize, MOST_SENSORS>,
 }

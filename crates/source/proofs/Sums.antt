@@ -146,16 +146,26 @@ how_many_add (suc k) y S e a b =
     rw n (omega arith))
     (cases_eq y (suc k))
 
--- counted from the front, as a range goes
-how_many_on : (S : ℕ → Bool) (d a : ℕ) → how_many a S + length (filter S (range_with_len (a + 1) d)) ≡ how_many (a + d) S
-how_many_on S zero a = let e : a + 0 ≡ a = omega arith in rw e (omega arith)
-how_many_on S (suc d) a =
+-- counted from the front, as a range goes, where each number gives one or nothing
+sum_over-range : (f : ℕ → ℕ) (S : ℕ → Bool) (d a : ℕ) → ((i : ℕ) → a < i → f i ≡ cond (S i) 1 0) → sum_over a f + length (filter S (range_with_len (a + 1) d)) ≡ sum_over (a + d) f
+sum_over-range f S zero a h = let e : a + 0 ≡ a = omega arith in rw e (omega arith)
+sum_over-range f S (suc d) a h =
     let e : a + suc d ≡ (a + 1) + d = omega arith in
-    rw e (sym (filtered (S (a + 1)) refl) ∙ how_many_on S d (a + 1))
+    rw e (sym (filtered (S (a + 1)) refl) ∙ sum_over-range f S d (a + 1) (λ i l. h i (omega arith)))
   where
-    filtered : (b : Bool) → S (a + 1) ≡ b → how_many (a + 1) S + length (filter S (range_with_len (a + 1 + 1) d)) ≡ how_many a S + length (filter S (range_with_len (a + 1) (suc d)))
-    filtered true e = let s = rw e at (how_many_step a S) in rw e (omega arith)
-    filtered false e = let s = rw e at (how_many_step a S) in rw e (omega arith)
+    filtered : (b : Bool) → S (a + 1) ≡ b → sum_over (a + 1) f + length (filter S (range_with_len (a + 1 + 1) d)) ≡ sum_over a f + length (filter S (range_with_len (a + 1) (suc d)))
+    filtered true e = let s = sum_over_step a f in let t = rw e at (h (a + 1) (omega arith)) in rw e (omega arith)
+    filtered false e = let s = sum_over_step a f in let t = rw e at (h (a + 1) (omega arith)) in rw e (omega arith)
 
 pub how_many-range : (S : ℕ → Bool) (n : ℕ) → length (filter S (range_with_len 1 n)) ≡ how_many n S
-how_many-range S n = let z = how_many_none S in let r = how_many_on S n 0 in let e : 0 + n ≡ n = omega arith in omega (arith, ap (λ k. how_many k S) e)
+how_many-range S n =
+    let r = sum_over-range (λ i. cond (S i) 1 0) S n 0 (λ i l. refl) in
+    let z = sum_over_none (λ i. cond (S i) 1 0) in
+    let e : 0 + n ≡ n = omega arith in
+    omega (arith, ap (λ k. sum_over k (λ i. cond (S i) 1 0)) e, how_many-sum_over n S)
+
+-- equations behind the first a, of which each has one pair or none
+pub pairs_to-range : (M : Meaning) (S : ℕ → Bool) (d a : ℕ) → ((i : ℕ) → a < i → how_many M.n (M.holds i) ≡ cond (S i) 1 0)
+    → pairs_to M a + length (filter S (range_with_len (a + 1) d)) ≡ pairs_to M (a + d)
+unfolding pairs_to
+pairs_to-range M S d a h = sum_over-range (λ i. how_many M.n (M.holds i)) S d a h

@@ -1,35 +1,40 @@
-use Rattle.std.proofs.Common.{◌≡◌, ◌+◌, Bool, true, false, sym, ap, ◌∙◌, arith}
-use Rattle.layers.specs.Layers.{sensors_of, with_sensors}
-use Rattle.source.specs.Meaning.{pairs_to}
-use Rattle.layers.proofs.Layering.{pairs_below, sensor_counted}
+use Rattle.std.proofs.Common.{◌≡◌, ◌+◌, ◌-◌, is_some, arith, rules}
+use Rattle.std.proofs.lemmas.Iterator.{YieldsList-from_range}
+use Rattle.std.proofs.lemmas.Iterator.Consumers.{count_from_yields_List, YieldsList-from_filter, YieldsList-at}
+use Rattle.layers.specs.Layers.{sensors_of, sensed, with_sensors}
+use Rattle.layers.proofs.Layering.{sensors_counted}
+use Rattle.source.specs.Meaning.{pair_count}
 use Rattle.source.proofs.Sums.{pairs_to_le}
+use Rattle.layers.proofs.sensing.SensorsSource.pairs.Given.{Over}
 use Rattle.layers.proofs.sensing.SensorsSource.pairs.Goals as goal
-use Rattle.layers.proofs.sensing.SensorsSource.pairs.Goals.{then-holds, else-holds}
 
-pub loop-k-init : goal.loop-k-init
-loop-k-init g c =
+all : (g : Over) (c : goal.After-count g) → c.pairs.result + c.count.result ≡ pair_count (with_sensors (g.S.Source.means c.args.self.now.below) (sensors_of c.args.self.now))
+all g c =
     let s = c.args.self.now in
     let M = g.S.Source.means s.below in
-    let f : c.equations-first.result + 0 ≡ M.m = omega arith in
-    c.pairs-pairs.ensures ∙ sym (pairs_below M (sensors_of s)) ∙ ap (pairs_to (with_sensors M (sensors_of s))) (sym f)
+    let xs = sensors_of s in
+    let b = g.S.Source.bounded s.below in
+    let few = b.few_equations in
+    let first = c.equations-first.result in
+    let last = c.equations.result in
+    let n = count_from_yields_List c.filter.result c.count.result c.count.ensures.ran
+    (YieldsList-from_filter _ (λ i. is_some (sensed M xs i)) (YieldsList-at c.filter.ensures.source (YieldsList-from_range (first + 1) (last + 1) (last - first) (cc) (omega arith))) c.filter.ensures.closure (λ x r q k. search rules)) in
+    let t = sensors_counted M b xs in
+    let f : first ≡ M.m = c.equations-first.ensures in
+    let l : last ≡ (with_sensors M xs).m = c.equations.ensures in
+    let p : c.pairs.result ≡ pair_count M = c.pairs.ensures in
+    cc
 
-pub overflow_add-pairs : goal.overflow_add-pairs
-overflow_add-pairs g c =
+pub overflow_add-result : goal.overflow_add-result
+overflow_add-result g c =
     let s = c.args.self.now in
     let M = g.S.Source.means s.below in
     let b = g.S.Source.bounded s.below in
-    let l = pairs_to_le (with_sensors M (sensors_of s)) b.few_unknowns (c.equations-first.result + c.loop-k.k) in
-    let i = c.loop-k.invariant in
+    let few = b.few_equations in
+    let xs = sensors_of s in
+    let l = pairs_to_le (with_sensors M xs) b.few_unknowns (with_sensors M xs).m in
+    let a = all g c in
     omega arith
 
-pub loop-k-preserved : goal.loop-k-preserved
-loop-k-preserved g c =
-    let s = c.args.self.now in
-    let M = g.S.Source.means s.below in
-    let more = λ (b : Bool) (e : b ≡ c.holds.result).
-    sensor_counted M (sensors_of s) c.equations-first.result c.loop-k.k c.unknown_at-unknown.result c.loop-k.pairs b
-    c.equations-first.ensures c.loop-k.invariant c.unknown_at-unknown.ensures (e ∙ c.holds.ensures) in
-    elim c.if-holds.branch [
-      | then-holds w ↦ let e = w.pairs-is in let m = more true (sym w.if-holds.true) in omega arith
-      | else-holds w ↦ let e = w.pairs-is in let m = more false (sym w.if-holds.false) in omega arith
-    ]
+pub returns : goal.returns
+returns g c = all g c

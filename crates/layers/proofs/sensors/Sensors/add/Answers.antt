@@ -1,5 +1,4 @@
-use Rattle.std.proofs.Common.{◌≡◌, true, false, leb, length, refl, ap, ◌∙◌, arith, length-take}
-use Rattle.std.proofs.lemmas.List.{take_more_set}
+use Rattle.std.proofs.Common.{◌≡◌, true, false, leb, length, refl, ap, ◌∙◌, arith}
 use Rattle.std.proofs.lemmas.Bool.{lt-leb}
 use Rattle.std.proofs.lemmas.Bool.Decides.{nat_tests}
 use Rattle.sets.specs.Counting.{one_of}
@@ -13,9 +12,9 @@ returns g c =
     let M = g.S.Source.means s.below in
     let xs = sensors_of s in
     let x = c.args.unknown in
-    let n : length xs ≡ s.count = length-take s.count s.on ∙ omega (arith, s.few.0, s.few.1) in
-    let few : leb 16 (length xs) ≡ false = lt-leb 16 (length xs) (omega arith) in
+    let full = c.if-is_full.ensures in
+    let few : leb 16 (length xs) ≡ false = grind (arith, nat_tests, full.value, full.fits) in
     let fits : leb 128 (with_sensors M xs).m ≡ false = lt-leb 128 (with_sensors M xs).m (omega arith) in
     let known : one_of M.n x ≡ true = grind (arith, nat_tests) in
-    let more = take_more_set s.on s.count x (omega (arith, s.few.1)) in
+    let more = c.push.ensures.items in
     (simp (few, fits, known), (ap (with_sensors M) more ∙ one_sensor_more M xs x (omega arith) known, (more, refl)))
