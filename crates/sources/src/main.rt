@@ -6,10 +6,17 @@ mod model;
 mod show;
 
 use dense::rows::Dense;
-use source::growing::{replay, replay_both};
+use source::growing::{Growing, replay, replay_both};
 use sparse::lists::Sparse;
 use std::io;
 use table::kept::Table;
+
+/// Prints the model that a source holds, and tries its limits.
+fn show_source<G: Growing>(rt: &HostRuntime, name: &str, source: &mut G) -> io::Result<()> {
+    rt.println(name)?;
+    model::print_model(rt, &*source)?;
+    limits::run(rt, source)
+}
 
 fn main(rt: HostRuntime) -> io::Result<()> {
     let mut dense = Dense::new();
@@ -18,13 +25,7 @@ fn main(rt: HostRuntime) -> io::Result<()> {
     let changes = model::changes();
     replay(&mut dense, &changes);
     replay_both(&mut sparse, &mut table, &changes);
-    rt.println("dense")?;
-    model::print_model(&rt, &dense)?;
-    limits::run(&rt, &mut dense)?;
-    rt.println("sparse")?;
-    model::print_model(&rt, &sparse)?;
-    limits::run(&rt, &mut sparse)?;
-    rt.println("table")?;
-    model::print_model(&rt, &table)?;
-    limits::run(&rt, &mut table)
+    show_source(&rt, "dense", &mut dense)?;
+    show_source(&rt, "sparse", &mut sparse)?;
+    show_source(&rt, "table", &mut table)
 }

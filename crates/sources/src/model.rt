@@ -1,5 +1,5 @@
 //! The packaged model, with the layers over it.
-use crate::show::{print_source, refusal};
+use crate::show::{Answer, print_source};
 use layers::sensors::Sensors;
 use layers::transposed::Transposed;
 use sets::numbers::UnknownSet;
@@ -7,15 +7,18 @@ use source::changes::Change;
 use source::questions::Source;
 use std::io;
 
-/// The equation that holds these unknowns; 0 stands for none.
-fn equation(first: usize, second: usize) -> Change {
-    Change::AddEquation(UnknownSet::empty().with(first).with(second))
+/// The equation that holds these unknowns.
+fn equation(unknowns: &[usize]) -> Change {
+    let held = unknowns
+        .iter()
+        .fold(UnknownSet::empty(), |held, &unknown| held.with(unknown));
+    Change::AddEquation(held)
 }
 
 fn print_layers<S: Source>(rt: &HostRuntime, source: &S) -> io::Result<()> {
     let mut sensors = Sensors::over(source);
-    let first = refusal(sensors.add(4));
-    let second = refusal(sensors.add(1));
+    let first = Answer::from(sensors.add(4));
+    let second = Answer::from(sensors.add(1));
     println!(rt; " sensors on 4 and 1: {first} {second}")?;
     print_source(rt, "with sensors", &sensors)?;
     print_source(rt, "the other way", &Transposed::over(source))?;
@@ -34,12 +37,12 @@ pub(crate) fn changes() -> [Change; 10] {
         unknown,
         unknown,
         unknown,
-        equation(1, 0),
-        equation(1, 2),
-        equation(2, 3),
-        equation(3, 0),
-        equation(3, 4),
-        equation(2, 0),
+        equation(&[1]),
+        equation(&[1, 2]),
+        equation(&[2, 3]),
+        equation(&[3]),
+        equation(&[3, 4]),
+        equation(&[2]),
     ]
 }
 

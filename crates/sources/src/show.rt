@@ -1,7 +1,27 @@
 //! Prints what a source answers.
 use source::faults::SourceFault;
 use source::questions::Source;
-use std::io;
+use std::{fmt, io};
+
+/// How an addition was answered, shown as the number of its refusal, or 0 if there was none.
+#[derive(Drop)]
+pub(crate) struct Answer(Result<(), SourceFault>);
+
+impl From<Result<(), SourceFault>> for Answer {
+    fn from(answer: Result<(), SourceFault>) -> Answer {
+        Answer(answer)
+    }
+}
+
+impl fmt::Display for Answer {
+    fn fmt<W: fmt::Write>(&self, f: &mut fmt::Formatter<W>) -> fmt::Result {
+        let number = match self.0 {
+            Ok(()) => 0,
+            Err(fault) => u32::from(fault),
+        };
+        write!(f, "{number}")
+    }
+}
 
 fn print_row<S: Source>(rt: &HostRuntime, source: &S, equation: usize) -> io::Result<()> {
     print!(rt; "  {equation}:")?;
@@ -19,16 +39,8 @@ pub(crate) fn print_source<S: Source>(rt: &HostRuntime, name: &str, source: &S) 
     let unknowns = source.unknowns();
     let pairs = source.pairs();
     println!(rt; " {name}: {equations} equations, {unknowns} unknowns, {pairs} pairs")?;
-    for i in 0..equations {
-        print_row(rt, source, i + 1)?;
+    for equation in 1..=equations {
+        print_row(rt, source, equation)?;
     }
     Ok(())
-}
-
-/// The number of a refusal, or 0 if there was none.
-pub(crate) fn refusal(answer: Result<(), SourceFault>) -> u32 {
-    match answer {
-        Ok(()) => 0,
-        Err(fault) => fault.number(),
-    }
 }
