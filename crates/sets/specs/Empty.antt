@@ -7,4 +7,4 @@ UnknownSet = Numbers Unknown
 
 -- the set that stands past the end of a list of sets
 abbrev pub no_unknown : UnknownSet
-no_unknown = record { bits = 0; kind = record {} }
+no_unknown = 0

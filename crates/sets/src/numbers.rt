@@ -3,7 +3,7 @@ ghost use Rattle.std.specs.Prelude.{◌≡◌, ℕ, true, false, Decides};
 ghost use Rattle.sets.specs.Counting.{how_many};
 ghost use Rattle.sets.specs.Members.{member_of, and_also, all_but, PartOf, FirstFrom, InWords};
 
-use std::marker::PhantomData;
+use std::marker::{Model, PhantomData};
 
 /// Marks a set as one of equations.
 pub enum Equation {}
@@ -18,6 +18,20 @@ pub struct Numbers<K> {
     kind: PhantomData<K>,
 }
 
+/// Clauses see a set as the number that its bits make.
+impl<K> Model for Numbers<K> {
+    ghost use Rattle.std.specs.Prelude.{ℕ};
+    ghost use Rattle.std.specs.Coded.{coded_ℕ};
+
+    ghost Value = { ℕ };
+
+    ghost coded = { coded_ℕ };
+
+    ghost view = { λ s. s.bits };
+
+    ghost inverse = { λ bits. record { bits = bits; kind = record {} } };
+}
+
 /// A set of equations, by their numbers.
 pub type EquationSet = Numbers<Equation>;
 
@@ -27,10 +41,23 @@ pub type UnknownSet = Numbers<Unknown>;
 /// The highest number that a set can hold.
 pub const HIGHEST: usize = 128;
 
+/// Whether the bit that stands for `number` is 1.
+fn has_bit(bits: u128, number: usize) -> bool
+    ensures { result ≡ member_of bits number }
+{
+    if number == 0 {
+        return false;
+    }
+    if number > HIGHEST {
+        return false;
+    }
+    (bits >> (number - 1)) & 1 == 1
+}
+
 impl<K> Numbers<K> {
     /// The set of these bits.
     fn from_bits(bits: u128) -> Self
-        ensures { result.bits ≡ bits }
+        ensures { result ≡ bits }
     {
         Numbers {
             bits,
@@ -40,27 +67,21 @@ impl<K> Numbers<K> {
 
     /// The set that holds nothing.
     pub fn empty() -> Self
-        ensures { (i : ℕ) → member_of result.bits i ≡ false }
+        ensures { (i : ℕ) → member_of result i ≡ false }
     {
         Self::from_bits(0)
     }
 
     /// Whether the set holds `number`. It never holds 0, or a number above 128.
     pub fn holds(self, number: usize) -> bool
-        ensures { result ≡ member_of self.bits number }
+        ensures { result ≡ member_of self number }
     {
-        if number == 0 {
-            return false;
-        }
-        if number > HIGHEST {
-            return false;
-        }
-        (self.bits >> (number - 1)) & 1 == 1
+        has_bit(self.bits, number)
     }
 
     /// The set with `number` in it. With 0, or a number above 128, it is the set as it was.
     pub fn with(self, number: usize) -> Self
-        ensures { (i : ℕ) → member_of result.bits i ≡ and_also (member_of self.bits) number i }
+        ensures { (i : ℕ) → member_of result i ≡ and_also (member_of self) number i }
     {
         if number == 0 {
             return self;
@@ -73,25 +94,26 @@ impl<K> Numbers<K> {
 
     /// The set without `number`.
     pub fn without(self, number: usize) -> Self
-        ensures { (i : ℕ) → member_of result.bits i ≡ all_but (member_of self.bits) number i }
+        ensures { (i : ℕ) → member_of result i ≡ all_but (member_of self) number i }
     {
-        if self.holds(number) {
-            Self::from_bits(self.bits ^ (1 << (number - 1)))
+        let bits = self.bits;
+        if has_bit(bits, number) {
+            Self::from_bits(bits ^ (1 << (number - 1)))
         } else {
-            self
+            Self::from_bits(bits)
         }
     }
 
     /// How many numbers the set holds.
     pub fn len(self) -> usize
-        ensures { result ≡ how_many 128 (member_of self.bits) }
+        ensures { result ≡ how_many 128 (member_of self) }
     {
         self.bits.count_ones() as usize
     }
 
     /// The lowest number of the set that is not below `number`.
     pub fn next_from(self, number: usize) -> Option<usize>
-        ensures { FirstFrom (member_of self.bits) number result }
+        ensures { FirstFrom (member_of self) number result }
     {
         if number > HIGHEST {
             return None;
@@ -106,14 +128,14 @@ impl<K> Numbers<K> {
 
     /// Whether each number of this set is in `other` too.
     pub fn is_subset(self, other: Self) -> bool
-        ensures { Decides result (PartOf (member_of self.bits) (member_of other.bits)) }
+        ensures { Decides result (PartOf (member_of self) (member_of other)) }
     {
         self.bits & other.bits == self.bits
     }
 
     /// The set as two words: bit 0 of the first stands for 1, bit 0 of the second for 65.
     pub fn words(self) -> (u64, u64)
-        ensures { InWords self.bits result.0 result.1 }
+        ensures { InWords self result.0 result.1 }
     {
         (
             (self.bits & 0xffff_ffff_ffff_ffff) as u64,
@@ -123,7 +145,7 @@ impl<K> Numbers<K> {
 
     /// The set that two words stand for.
     pub fn from_words(first: u64, second: u64) -> Self
-        ensures { InWords result.bits first second }
+        ensures { InWords result first second }
     {
         Self::from_bits((second as u128) << 64 | first as u128)
     }

@@ -1,7 +1,6 @@
 use Rattle.std.proofs.Common.{◌+◌, drop, sym, ap, ◌∙◌, arith}
 use Rattle.std.proofs.lemmas.List.{at_drop_more, at_drop_all}
-use Rattle.source.specs.declared.changes.Change.TheVariants.{Clear}
-use Rattle.source.specs.Growth.{after_changes}
+use Rattle.source.specs.Growth.{after_changes, changed}
 use Rattle.source.proofs.growing.replay.Goals as goal
 
 pub loop-change-preserved : goal.loop-change-preserved
@@ -10,8 +9,10 @@ loop-change-preserved g c =
     let M = g.G.Source.means c.loop-change.source in
     let i = c.loop-change.change-index in
     let cs = c.args.changes.now in
+    let x = c.change-item.result in
     ap (λ N. after_changes room N (drop (i + 1) cs)) c.apply.ensures.meaning ∙
-    sym (at_drop_more (after_changes room M) cs i Clear (omega arith)) ∙
+    ap (λ y. after_changes room (changed room M y) (drop (i + 1) cs)) c.change-item.is ∙
+    sym (at_drop_more (after_changes room M) cs i x (omega arith)) ∙
     c.loop-change.invariant
 
 pub returns : goal.returns

@@ -6,4 +6,4 @@ pub overflow_cast-result : goal.overflow_cast-result
 overflow_cast-result g c = record { fits = ones_short _ (omega arith) }
 
 pub returns : goal.returns
-returns g c = let b = bits_counted c.args.self.bits (omega arith) in cc
+returns g c = let b = bits_counted c.args.self (omega arith) in cc

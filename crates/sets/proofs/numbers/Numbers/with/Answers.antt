@@ -7,5 +7,5 @@ pub returns : goal.returns
 returns g c i =
     let e = c.from_bits.ensures in
     let o = one_shl (c.args.number - 1) 128 (omega arith) in
-    let m = members_or c.args.self.bits c.args.number i (omega arith) (omega arith) in
+    let m = members_or c.args.self c.args.number i (omega arith) (omega arith) in
     cc
