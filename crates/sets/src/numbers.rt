@@ -134,6 +134,7 @@ impl<K> Numbers<K> {
     }
 
     /// The set as two words: bit 0 of the first stands for 1, bit 0 of the second for 65.
+    // Kept: no plainer as `From`, since a pair of words does not say which is the low one; std's `to_le_bytes` has a name for the same reason.
     pub fn words(self) -> (u64, u64)
         ensures { InWords self result.0 result.1 }
     {

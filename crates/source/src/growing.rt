@@ -99,6 +99,7 @@ pub fn apply<G: Growing>(source: &mut G, change: Change) -> Result<(), SourceFau
     ensures meaning { G.Source.means source.new ≡ changed G.Growing.ROOM (G.Source.means source.old) change }
     ensures words { Comes G.Growing.ROOM (G.Source.means source.old) change (changed G.Growing.ROOM (G.Source.means source.old) change) }
 {
+    // Kept: no plainer as closures, since a change is a value: the laws of growth speak of lists of changes.
     match change {
         Change::Clear => source.clear(),
         Change::AddUnknown => source.add_unknown()?,

@@ -25,6 +25,7 @@ impl fmt::Display for Answer {
 
 fn print_row<S: Source>(rt: &HostRuntime, source: &S, equation: usize) -> io::Result<()> {
     print!(rt; "  {equation}:")?;
+    // Kept: no plainer as a `for`, since this tries `next`, and each call says where the following one begins.
     let mut from = 1;
     while let Some(unknown) = source.next(equation, from) {
         print!(rt; " {unknown}")?;

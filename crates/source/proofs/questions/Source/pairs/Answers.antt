@@ -19,14 +19,6 @@ row g c =
 pub loop-i-init : goal.loop-i-init
 loop-i-init g c = record { counted = sym (pairs_to_none (g.Self.Source.means c.args.self.now)); few = omega arith }
 
-pub overflow_add-pairs : goal.overflow_add-pairs
-overflow_add-pairs g c =
-    let M = g.Self.Source.means c.args.self.now in
-    let b = g.Self.Source.bounded c.args.self.now in
-    let r = row g c in
-    let l = how_many_le M.n (M.holds c.loop-i.i-counter) in
-    omega arith
-
 pub loop-i-preserved : goal.loop-i-preserved
 loop-i-preserved g c =
     let M = g.Self.Source.means c.args.self.now in
@@ -39,9 +31,3 @@ loop-i-preserved g c =
     let f : i + 1 - 1 ≡ i = omega arith in
     let t = rw e at s in
     record { counted = rw f (omega arith); few = omega arith }
-
-pub returns : goal.returns
-returns g c =
-    let M = g.Self.Source.means c.args.self.now in
-    let e : c.loop-i.i-counter - 1 ≡ M.m = omega arith in
-    rw e at c.loop-i.invariant.counted
