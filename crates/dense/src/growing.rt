@@ -70,11 +70,7 @@ impl Source for Dense {
 impl Growing for Dense {
     const ROOM: usize = 14336;
 
-    ghost room = { 14336 };
-
-    fn capacity() -> usize {
-        Self::ROOM
-    }
+    ghost ROOM = { 14336 };
 
     fn clear(&mut self) {
         self.equations = 0;

@@ -85,11 +85,7 @@ impl Source for Sparse {
 impl Growing for Sparse {
     const ROOM: usize = 1024;
 
-    ghost room = { 1024 };
-
-    fn capacity() -> usize {
-        Self::ROOM
-    }
+    ghost ROOM = { 1024 };
 
     fn clear(&mut self) {
         self.equations = 0;

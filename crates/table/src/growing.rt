@@ -56,11 +56,7 @@ impl Source for Table {
 impl Growing for Table {
     const ROOM: usize = 1024;
 
-    ghost room = { 1024 };
-
-    fn capacity() -> usize {
-        Self::ROOM
-    }
+    ghost ROOM = { 1024 };
 
     fn clear(&mut self) {
         self.equations = 0;
