@@ -1,17 +1,22 @@
 -- What the dense source stands for. Assumes nothing.
-use Rattle.std.specs.Prelude.{ℕ, ◌-◌, Bool, slice_index_or}
+use Rattle.std.specs.Prelude.{ℕ, ◌-◌, Bool, cond, Option, None, ◌==◌, slice_get, slice_index_or}
 use Rattle.std.proofs.Common.{arith}
 use Rattle.sets.specs.Members.{member_of}
-use Rattle.sets.specs.Empty.{no_unknown}
+use Rattle.sets.specs.Empty.{UnknownSet, no_unknown}
 use Rattle.source.specs.Meaning.{Meaning, WithinLimits, clipped, clipped_bounded}
+use Rattle.arrayvec.specs.ArrayVec.{array_vec_len}
 use Rattle.dense.specs.declared.rows.Dense.{Dense}
+
+-- the row of equation i, if there is one
+abbrev pub row_of : Dense → ℕ → Option UnknownSet
+row_of d i = cond (i == 0) None (slice_get d.rows.items (i - 1))
 
 -- whether bit j - 1 is set in the row of equation i
 abbrev pub in_row : Dense → ℕ → ℕ → Bool
-in_row d i j = member_of (slice_index_or d.rows (i - 1) no_unknown).bits j
+in_row d i j = member_of (slice_index_or d.rows.items (i - 1) no_unknown).bits j
 
 abbrev pub dense_means : Dense → Meaning
-dense_means d = clipped d.equations d.unknowns (in_row d)
+dense_means d = clipped (array_vec_len d.rows) d.unknowns (in_row d)
 
 pub dense_bounded : (d : Dense) → WithinLimits (dense_means d)
-dense_bounded d = clipped_bounded d.equations d.unknowns (in_row d) (omega (arith, d.few.0)) d.few.1
+dense_bounded d = clipped_bounded (array_vec_len d.rows) d.unknowns (in_row d) (omega (arith, d.few.0)) d.few.1

@@ -1,31 +1,25 @@
-use Rattle.std.proofs.Common.{◌≡◌, ◌+◌, ◌-◌, get_or, sym, ap, ◌∙◌, arith}
-use Rattle.sets.specs.Counting.{how_many}
-use Rattle.sets.specs.Empty.{no_unknown}
+use Rattle.std.proofs.Common.{◌≡◌, ◌*◌, ◌≤◌, length, take, sum_by, sym, ap, ◌∙◌, arith, rules}
+use Rattle.std.proofs.lemmas.Iterator.{YieldsList, YieldsList-from_slice, YieldsList-from_map}
+use Rattle.std.proofs.lemmas.Iterator.Consumers.{YieldsList-at, sum_by_from_yields_List, fits_by_from_yields_list}
+use Rattle.std.proofs.lemmas.List.{take_all}
+use Rattle.std.proofs.lemmas.List.Sums.{sum_by-le}
 use Rattle.sets.specs.Members.{member_of}
-use Rattle.source.specs.Meaning.{pairs_to}
-use Rattle.source.proofs.Clipping.{clip_counted}
-use Rattle.source.proofs.Sums.{how_many_le, pairs_to_le, pairs_to_none}
-use Rattle.dense.specs.Rows.{in_row, dense_means}
-use Rattle.dense.proofs.Known.{row_known}
+use Rattle.source.proofs.Sums.{how_many_le}
+use Rattle.dense.proofs.Known.{row_len, rows_counted}
 use Rattle.dense.proofs.growing.DenseSource.pairs.Goals as goal
 
-pub loop-i-init : goal.loop-i-init
-loop-i-init c = let z = pairs_to_none (dense_means c.args.self.now) in cc
-
-pub overflow_add-pairs : goal.overflow_add-pairs
-overflow_add-pairs c =
+pub sum-requires-clause-fits : goal.sum-requires-clause-fits
+sum-requires-clause-fits c =
     let d = c.args.self.now in
     let few = d.few.0 in
-    let l = pairs_to_le (dense_means d) d.few.1 c.loop-i.i in
-    let i = c.loop-i.invariant in
-    let r = how_many_le 128 (member_of (get_or d.rows c.loop-i.i no_unknown).bits) in
-    omega arith
+    let l = sum_by-le row_len 128 d.rows.items (λ k x h. how_many_le 128 _) in
+    fits_by_from_yields_list row_len d.rows.items c.map.result _
+    (YieldsList-from_map _ row_len (YieldsList-at c.map.ensures.source (YieldsList-from_slice d.rows.items (cc))) c.map.ensures.closure (λ x r q k. search rules)) (omega arith)
 
-pub loop-i-preserved : goal.loop-i-preserved
-loop-i-preserved c =
+pub returns : goal.returns
+returns c =
     let d = c.args.self.now in
-    let k = c.loop-i.i in
-    let s : k + 1 - 1 ≡ k = omega arith in
-    ap (λ x. x + c.len-pairs.result) c.loop-i.invariant ∙
-    ap (λ x. pairs_to (dense_means d) k + x) (c.len-pairs.ensures ∙ ap (λ i. how_many 128 (member_of (get_or d.rows i no_unknown).bits)) (sym s)) ∙
-    sym (clip_counted d.equations d.unknowns k (in_row d) (omega arith) d.few.1 (λ j. row_known d (k + 1) j (omega arith) (omega arith)))
+    sum_by_from_yields_List row_len d.rows.items c.map.result c.sum.result c.sum.ensures.ran
+    (YieldsList-from_map _ row_len (YieldsList-at c.map.ensures.source (YieldsList-from_slice d.rows.items (cc))) c.map.ensures.closure (λ x r q k. search rules))
+    ∙ ap (sum_by row_len) (sym (take_all (length d.rows.items) d.rows.items (omega arith)))
+    ∙ sym (rows_counted d (length d.rows.items) (omega arith))
