@@ -1,15 +1,11 @@
 -- What the dense source stands for. Assumes nothing.
-use Rattle.std.specs.Prelude.{ℕ, ◌-◌, Bool, cond, Option, None, ◌==◌, slice_get, slice_index_or}
+use Rattle.std.specs.Prelude.{ℕ, ◌-◌, Bool, slice_index_or}
 use Rattle.std.proofs.Common.{arith}
 use Rattle.sets.specs.Members.{member_of}
-use Rattle.sets.specs.Empty.{UnknownSet, no_unknown}
+use Rattle.sets.specs.Empty.{no_unknown}
 use Rattle.source.specs.Meaning.{Meaning, WithinLimits, clipped, clipped_bounded}
 use Rattle.arrayvec.specs.ArrayVec.{array_vec_len}
 use Rattle.dense.specs.declared.rows.Dense.{Dense}
-
--- the row of equation i, if there is one
-abbrev pub row_of : Dense → ℕ → Option UnknownSet
-row_of d i = cond (i == 0) None (slice_get d.rows.items (i - 1))
 
 -- whether bit j - 1 is set in the row of equation i
 abbrev pub in_row : Dense → ℕ → ℕ → Bool

@@ -1,7 +1,8 @@
 //! The dense source answers and grows.
-ghost use Rattle.std.specs.Prelude.{◌≡◌};
+ghost use Rattle.std.specs.Prelude.{◌≡◌, ℕ, false, MatchOption};
+ghost use Rattle.sets.specs.Members.{member_of};
 ghost use Rattle.source.specs.Growth.{vacant};
-ghost use Rattle.dense.specs.Rows.{row_of, dense_means, dense_bounded};
+ghost use Rattle.dense.specs.Rows.{dense_means, dense_bounded};
 
 use crate::rows::Dense;
 use arrayvec::ArrayVec;
@@ -23,7 +24,7 @@ impl Dense {
 
     /// The row of an equation; none for a number that does not exist.
     fn row(&self, equation: usize) -> Option<UnknownSet>
-        ensures { result ≡ row_of self.now equation }
+        ensures { MatchOption result ((j : ℕ) → (dense_means self.now).holds equation j ≡ false) (λ row. (j : ℕ) → (dense_means self.now).holds equation j ≡ member_of row.bits j) }
     {
         self.rows.get(equation.checked_sub(1)?).copied()
     }

@@ -29,10 +29,11 @@ returns c =
     let us = c.args.unknowns in
     let row = c.flags.result in
     let rule = c.in_ok-admits_equation.ensures.rule in
-    let a = accepted _ (table_means t) us.bits rule in
-    (rule,
-    rw (c.push.ensures.items, length_push t.rows.items row)
-    (clip_row (array_vec_len t.rows) t.unknowns (flag t) _ (member_of us.bits) a.known
-    (λ i j p q r _.
-    let s : j - 1 + 1 ≡ j = omega arith in
-    rw (sym (c.flags.ensures (j - 1) ∙ ap (member_of us.bits) s)) (row_appended (λ (r : List Bool) (j : ℕ). get_or r (j - 1) false) t.rows.items row [] i j p q))))
+    let a = accepted _ (table_means t) us.bits rule in (
+      rule,
+      rw (c.push.ensures.items, length_push t.rows.items row)
+          (clip_row (array_vec_len t.rows) t.unknowns (flag t) _ (member_of us.bits) a.known
+          (λ i j p q r _.
+          let s : j - 1 + 1 ≡ j = omega arith in
+          rw (sym (c.flags.ensures (j - 1) ∙ ap (member_of us.bits) s)) (row_appended (λ (r : List Bool) (j : ℕ). get_or r (j - 1) false) t.rows.items row [] i j p q))),
+    )
