@@ -13,12 +13,12 @@ use Rattle.source.proofs.Sums.{pairs_to_none}
 use Rattle.arrayvec.specs.ArrayVec.{array_vec_len}
 use Rattle.sparse.specs.declared.lists.Sparse.{Sparse}
 use Rattle.sparse.specs.Cells.{stands_in, numbers_to, list_at}
-use Rattle.sparse.specs.Lists.{start_behind, list_of, in_list, sparse_means, sparse_bounded}
+use Rattle.sparse.specs.Lists.{end_of, list_of, in_list, sparse_means, sparse_bounded}
 use Rattle.sparse.proofs.Numbers.{FoundFrom, numbers_counted, number_from}
 
 -- behind the last list the cells end
-pub start_past : (s : Sparse) (i : ℕ) → array_vec_len s.starts ≤ i → start_behind s i ≡ array_vec_len s.cells
-start_past s i h = get_or_past s.starts.items i (array_vec_len s.cells) h
+pub end_past : (s : Sparse) (i : ℕ) → array_vec_len s.starts ≤ i → end_of s i ≡ array_vec_len s.cells
+end_past s i h = get_or_past s.starts.items i (array_vec_len s.cells) h
 
 pub list_is : (s : Sparse) (i : ℕ) → 1 ≤ i → list_of s i ≡ list_at s.starts.items s.cells.items (i - 1)
 list_is s i p = let e : i - 1 + 1 ≡ i = omega arith in rw e refl
@@ -29,10 +29,10 @@ range_empty xs a = let z : a - a ≡ 0 = omega arith in rw z refl
 list_none : (s : Sparse) (i : ℕ) → one_of (array_vec_len s.starts) i ≡ false → list_of s i ≡ []
 list_none s i h =
     ⊎_elim
-    (λ (l : i < 1). let z : i ≡ 0 = omega arith in rw z (range_empty s.cells.items (start_behind s 0)))
+    (λ (l : i < 1). let z : i ≡ 0 = omega arith in rw z (range_empty s.cells.items (end_of s 0)))
     (λ (l : 1 ≤ i).
-    let a = start_past s (i - 1) (grind (arith, nat_tests)) in
-    let z = start_past s i (grind (arith, nat_tests)) in
+    let a = end_past s (i - 1) (grind (arith, nat_tests)) in
+    let z = end_past s i (grind (arith, nat_tests)) in
     rw (a, z) (range_empty s.cells.items (array_vec_len s.cells)))
     (cases_lt i 1)
 
@@ -80,7 +80,7 @@ range_counted : (xs : List ℕ) (a z : ℕ) → a ≤ z → z ≤ length xs → 
 range_counted xs a z p q = omega (arith, length-take (z - a) (drop a xs), length-drop a xs)
 
 -- the cells before list k are the pairs of the equations up to k
-pub lists_counted : (s : Sparse) (k : ℕ) → k ≤ array_vec_len s.starts → pairs_to (sparse_means s) k ≡ start_behind s k
+pub lists_counted : (s : Sparse) (k : ℕ) → k ≤ array_vec_len s.starts → pairs_to (sparse_means s) k ≡ end_of s k
 lists_counted s zero h = pairs_to_none (sparse_means s) ∙ sym s.first
 lists_counted s (suc k) h =
     let e : suc k ≡ k + 1 = omega arith in
@@ -91,10 +91,10 @@ lists_counted s (suc k) h =
     let n = numbers_counted 128 (in_list s (k + 1)) in
     let l = ap length (list_rising s (k + 1) (omega arith) (omega arith)) in
     let o = s.ordered k (omega arith) in
-    let w = range_counted s.cells.items (start_behind s k) (start_behind s (k + 1)) o.0 o.1 in
-    let t = ap (λ i. length (slice_range s.cells.items (start_behind s i) (start_behind s (k + 1)))) f in
+    let w = range_counted s.cells.items (end_of s k) (end_of s (k + 1)) o.0 o.1 in
+    let t = ap (λ i. length (slice_range s.cells.items (end_of s i) (end_of s (k + 1)))) f in
     rw e (c ∙ omega arith)
 
 -- the cells are the pairs
 pub cells_counted : (s : Sparse) → array_vec_len s.cells ≡ pairs_to (sparse_means s) (array_vec_len s.starts)
-cells_counted s = sym (start_past s (array_vec_len s.starts) (omega arith)) ∙ sym (lists_counted s (array_vec_len s.starts) (omega arith))
+cells_counted s = sym (end_past s (array_vec_len s.starts) (omega arith)) ∙ sym (lists_counted s (array_vec_len s.starts) (omega arith))

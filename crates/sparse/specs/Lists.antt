@@ -6,13 +6,16 @@ use Rattle.arrayvec.specs.ArrayVec.{array_vec_len}
 use Rattle.sparse.specs.declared.lists.Sparse.{Sparse}
 use Rattle.sparse.specs.Cells.{stands_in, list_start}
 
--- where the list behind i others begins
-abbrev pub start_behind : Sparse → ℕ → ℕ
-start_behind s i = list_start s.starts.items s.cells.items i
+-- where the list of equation i ends and begins
+abbrev pub end_of : Sparse → ℕ → ℕ
+end_of s i = list_start s.starts.items s.cells.items i
+
+abbrev pub start_of : Sparse → ℕ → ℕ
+start_of s i = end_of s (i - 1)
 
 -- the list of equation i
 abbrev pub list_of : Sparse → ℕ → List ℕ
-list_of s i = slice_range s.cells.items (start_behind s (i - 1)) (start_behind s i)
+list_of s i = slice_range s.cells.items (start_of s i) (end_of s i)
 
 -- whether j is in the list of equation i
 abbrev pub in_list : Sparse → ℕ → ℕ → Bool

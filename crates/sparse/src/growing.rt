@@ -1,7 +1,7 @@
 //! The sparse source answers and grows.
 ghost use Rattle.std.specs.Prelude.{◌≡◌};
 ghost use Rattle.source.specs.Growth.{vacant};
-ghost use Rattle.sparse.specs.Lists.{start_behind, list_of, sparse_means, sparse_bounded};
+ghost use Rattle.sparse.specs.Lists.{end_of, list_of, sparse_means, sparse_bounded};
 
 use crate::filling::fill;
 use crate::lists::Sparse;
@@ -23,18 +23,21 @@ impl Sparse {
         }
     }
 
-    /// Where the list behind so many others begins; behind the last one, where the cells end.
-    fn start_behind(&self, lists: usize) -> usize
-        ensures { result ≡ start_behind self.now lists }
+    /// Where the list of an equation ends: where the next one begins, or where the cells end.
+    fn end(&self, equation: usize) -> usize
+        ensures { result ≡ end_of self.now equation }
     {
-        self.starts.get(lists).copied().unwrap_or(self.cells.len())
+        self.starts
+            .get(equation)
+            .copied()
+            .unwrap_or(self.cells.len())
     }
 
     /// The list of an equation; empty for a number that does not exist.
     fn list(&self, equation: usize) -> &[u8]
         ensures { result.now ≡ list_of self.now equation }
     {
-        &self.cells[self.start_behind(equation.saturating_sub(1))..self.start_behind(equation)]
+        &self.cells[self.end(equation.saturating_sub(1))..self.end(equation)]
     }
 }
 
@@ -52,7 +55,9 @@ impl Source for Sparse {
     }
 
     fn holds(&self, equation: usize, unknown: usize) -> bool {
-        self.list(equation).iter().any(|&cell| cell as usize == unknown)
+        self.list(equation)
+            .iter()
+            .any(|&cell| cell as usize == unknown)
     }
 
     fn pairs(&self) -> usize {
@@ -63,7 +68,10 @@ impl Source for Sparse {
         if unknown == 0 {
             return None;
         }
-        self.list(equation).iter().map(|&cell| cell as usize).find(|&found| found >= unknown)
+        self.list(equation)
+            .iter()
+            .map(|&cell| cell as usize)
+            .find(|&found| found >= unknown)
     }
 }
 

@@ -47,8 +47,9 @@ returns c =
     let bits = c.args.unknowns.bits in
     let S = member_of bits in
     let rule = c.in_ok-admits_equation.ensures.rule in
-    let a = accepted _ (sparse_means s) bits rule in
-    (rule,
-    rw (rw c.len.ensures.value at c.push.ensures.items, c.fill.ensures, length_push s.starts.items (length s.cells.items))
-    (clip_row (array_vec_len s.starts) s.unknowns (in_list s) _ S a.known
-    (λ i j p q _ _. list_written s.starts.items s.cells.items (numbers_to 128 S) S s.ordered (numbers_held 128 S (members_within bits)) i j p q)))
+    let a = accepted _ (sparse_means s) bits rule in (
+      rule,
+      rw (rw c.len.ensures.value at c.push.ensures.items, c.fill.ensures, length_push s.starts.items (length s.cells.items))
+          (clip_row (array_vec_len s.starts) s.unknowns (in_list s) _ S a.known
+          (λ i j p q _ _. list_written s.starts.items s.cells.items (numbers_to 128 S) S s.ordered (numbers_held 128 S (members_within bits)) i j p q)),
+    )

@@ -1,39 +1,33 @@
-use Rattle.std.proofs.Common.{◌≡◌, ℕ, ◌+◌, ◌-◌, ◌<◌, Bool, true, false, List, [], ◌∷◌, ◌++◌, get_or, sym, ap, ◌∙◌, arith}
+use Rattle.std.proofs.Common.{◌≡◌, ℕ, ◌+◌, ◌-◌, ◌<◌, Bool, true, false, List, [], get_or, sym, ap, ◌∙◌, arith}
 use Rattle.std.proofs.lemmas.Bool.Decides.{nat_tests}
 use Rattle.std.proofs.lemmas.List.{length_push}
 use Rattle.sets.specs.Members.{member_of}
-use Rattle.source.proofs.Clipping.{clip_row, row_appended, rows_kept}
+use Rattle.source.proofs.Clipping.{clip_appended, rows_kept}
 use Rattle.source.proofs.Rules.{accepted}
-use Rattle.arrayvec.specs.ArrayVec.{array_vec_len}
-use Rattle.table.specs.Rows.{flag, table_means}
+use Rattle.table.specs.Rows.{table_means}
 use Rattle.table.proofs.growing.TableGrowing.add_equation.Goals as goal
 
 pub invariant_of-self : goal.invariant_of-self
 invariant_of-self c =
     let t = c.args.self.now in
-    let us = c.args.unknowns in
     let row = c.flags.result in
-    let a = accepted _ (table_means t) us.bits c.in_ok-admits_equation.ensures.rule in
+    let a = accepted _ (table_means t) c.args.unknowns.bits c.in_ok-admits_equation.ensures.rule in
     let few = a.few in
-    let long = length_push t.rows.items row in
     rw c.push.ensures.items (record {
-      few = (omega arith, t.few.1);
+      few = (omega (arith, length_push t.rows.items row), t.few.1);
       fits = λ i k h.
           rows_kept (λ (r : List Bool). (k : ℕ) → get_or r k false ≡ true → k < t.unknowns) t.rows.items row []
-          (λ k m. let o = a.known (k + 1) (sym (c.flags.ensures k) ∙ m) in grind (arith, nat_tests)) (λ i h k. t.fits i k h) i (omega arith) k;
+          (λ k m. let o = a.known (k + 1) (sym (c.flags.ensures k) ∙ m) in grind (arith, nat_tests)) (λ i h k. t.fits i k h) i h k;
     })
 
 pub returns : goal.returns
 returns c =
     let t = c.args.self.now in
-    let us = c.args.unknowns in
-    let row = c.flags.result in
+    let S = member_of c.args.unknowns.bits in
     let rule = c.in_ok-admits_equation.ensures.rule in
-    let a = accepted _ (table_means t) us.bits rule in (
+    let a = accepted _ (table_means t) c.args.unknowns.bits rule in (
       rule,
-      rw (c.push.ensures.items, length_push t.rows.items row)
-          (clip_row (array_vec_len t.rows) t.unknowns (flag t) _ (member_of us.bits) a.known
-          (λ i j p q r _.
-          let s : j - 1 + 1 ≡ j = omega arith in
-          rw (sym (c.flags.ensures (j - 1) ∙ ap (member_of us.bits) s)) (row_appended (λ (r : List Bool) (j : ℕ). get_or r (j - 1) false) t.rows.items row [] i j p q))),
+      rw c.push.ensures.items
+          (clip_appended (λ (r : List Bool) (j : ℕ). get_or r (j - 1) false) t.rows.items c.flags.result [] t.unknowns S a.known
+          (λ j p. let s : j - 1 + 1 ≡ j = omega arith in c.flags.ensures (j - 1) ∙ ap S s)),
     )
