@@ -9,8 +9,8 @@ use arrayvec::ArrayVec;
 use sets::numbers::UnknownSet;
 
 /// Appends the numbers of a set, rising.
-pub(crate) fn fill(cells: &mut ArrayVec<u8, 1024>, unknowns: UnknownSet)
-    requires { array_vec_len cells.old + how_many 128 (member_of unknowns.bits) ≤ 1024 }
+pub(crate) fn fill<const N: usize>(cells: &mut ArrayVec<u8, N>, unknowns: UnknownSet)
+    requires { array_vec_len cells.old + how_many 128 (member_of unknowns.bits) ≤ N }
     ensures { cells.new.items ≡ cells.old.items ++ numbers_to 128 (member_of unknowns.bits) }
 {
     for unknown in 1..129u8 {

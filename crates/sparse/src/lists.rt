@@ -4,13 +4,14 @@ ghost use Rattle.arrayvec.specs.ArrayVec.{array_vec_len};
 ghost use Rattle.sparse.specs.Cells.{stands_in, numbers_to, list_start, list_at};
 
 use arrayvec::ArrayVec;
+use source::growing::MOST_EQUATIONS;
 
 /// A growing source with a list of unknown numbers for each equation. The lists stand one behind the other in `cells`, each rising;
 /// that of equation `i` from place `starts[i - 1]` on and up to the start of the next list, or to the end of the cells.
 #[derive(Drop)]
 pub struct Sparse {
     pub(crate) cells: ArrayVec<u8, 1024>,
-    pub(crate) starts: ArrayVec<usize, 112>,
+    pub(crate) starts: ArrayVec<usize, MOST_EQUATIONS>,
     pub(crate) unknowns: usize,
     ghost few: { (array_vec_len starts ≤ 112) × (unknowns ≤ 128) × (array_vec_len cells ≤ 1024) },
     ghost first: { list_start starts.items cells.items 0 ≡ 0 },

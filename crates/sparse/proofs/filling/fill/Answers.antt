@@ -6,11 +6,11 @@ use Rattle.sparse.proofs.filling.fill.Goals as goal
 use Rattle.sparse.proofs.filling.fill.Goals.{then-holds, else-holds}
 
 pub loop-unknown-init : goal.loop-unknown-init
-loop-unknown-init c =
+loop-unknown-init g c =
     sym (ap (λ xs. c.args.cells.now.items ++ xs) (numbers_none (member_of c.args.unknowns.bits)) ∙ append-nil c.args.cells.now.items)
 
 pub push-requires : goal.push-requires
-push-requires c =
+push-requires g c =
     let S = member_of c.args.unknowns.bits in
     let k = c.loop-unknown.unknown in
     let first = c.loop-unknown.auto.unknown in
@@ -19,7 +19,7 @@ push-requires c =
     (omega arith, omega (arith, c.requires))
 
 pub loop-unknown-preserved : goal.loop-unknown-preserved
-loop-unknown-preserved c =
+loop-unknown-preserved g c =
     let S = member_of c.args.unknowns.bits in
     let k = c.loop-unknown.unknown in
     let step = numbers_step k S c.loop-unknown.auto.unknown in
