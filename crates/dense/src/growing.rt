@@ -64,6 +64,7 @@ impl Growing for Dense {
 
     ghost ROOM = { 14336 };
 
+    // Kept: `clear` and `add_unknown` read alike in the three sources. A shared form is no plainer: it needs a trait that lends `unknowns` of each.
     fn clear(&mut self) {
         self.rows.clear();
         self.unknowns = 0;

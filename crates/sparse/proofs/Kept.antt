@@ -1,11 +1,11 @@
 -- What the lists of a sparse source say. Assumes nothing.
-use Rattle.std.proofs.Common.{◌≡◌, ℕ, zero, suc, ◌+◌, ◌-◌, ◌<◌, ◌≤◌, true, false, leb, List, [], length, drop, take, Option, Some, None, sym, refl, ap, ◌∙◌, ⊎_elim, arith, length-drop, length-take}
+use Rattle.std.proofs.Common.{◌≡◌, ℕ, zero, suc, ◌+◌, ◌-◌, ◌<◌, ◌≤◌, true, false, leb, List, [], length, drop, Option, Some, None, sym, refl, ap, ◌∙◌, ⊎_elim, arith, length-drop, length-take}
 use Rattle.std.specs.Prelude.{slice_range}
 use Rattle.std.specs.List.{find}
 use Rattle.std.proofs.lemmas.Bool.{cases_Bool, cases_lt}
 use Rattle.std.proofs.lemmas.Bool.Decides.{nat_tests}
 use Rattle.std.proofs.lemmas.List.{get_or_past}
-use Rattle.sets.specs.Counting.{one_of, how_many}
+use Rattle.sets.specs.Counting.{one_of}
 use Rattle.source.specs.Meaning.{pairs_to, NextUnknown}
 use Rattle.source.proofs.Asking.{next_found, next_none}
 use Rattle.source.proofs.Clipping.{clip_kept, clip_counted}

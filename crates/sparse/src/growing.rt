@@ -57,7 +57,7 @@ impl Source for Sparse {
     fn holds(&self, equation: usize, unknown: usize) -> bool {
         self.list(equation)
             .iter()
-            .any(|&cell| cell as usize == unknown)
+            .any(|&cell| usize::from(cell) == unknown)
     }
 
     fn pairs(&self) -> usize {
@@ -70,7 +70,7 @@ impl Source for Sparse {
         }
         self.list(equation)
             .iter()
-            .map(|&cell| cell as usize)
+            .map(|&cell| usize::from(cell))
             .find(|&found| found >= unknown)
     }
 }
@@ -80,6 +80,7 @@ impl Growing for Sparse {
 
     ghost ROOM = { 1024 };
 
+    // Kept: `clear` and `add_unknown` read alike in the three sources. A shared form is no plainer: it needs a trait that lends `unknowns` of each.
     fn clear(&mut self) {
         self.cells.clear();
         self.starts.clear();

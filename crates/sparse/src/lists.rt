@@ -1,7 +1,7 @@
 //! How the sparse source is kept.
 ghost use Rattle.std.specs.Prelude.{◌≡◌, ℕ, ◌+◌, ◌<◌, ◌≤◌, true};
 ghost use Rattle.arrayvec.specs.ArrayVec.{array_vec_len};
-ghost use Rattle.sparse.specs.Cells.{stands_in, numbers_to, list_start, list_at};
+ghost use Rattle.sparse.specs.Cells.{stands_in, list_start, list_at, ListsOrdered, NumbersInOrder};
 
 use arrayvec::ArrayVec;
 use source::growing::MOST_EQUATIONS;
@@ -15,7 +15,7 @@ pub struct Sparse {
     pub(crate) unknowns: usize,
     ghost few: { (array_vec_len starts ≤ 112) × (unknowns ≤ 128) × (array_vec_len cells ≤ 1024) },
     ghost first: { list_start starts.items cells.items 0 ≡ 0 },
-    ghost ordered: { (i : ℕ) → i < array_vec_len starts → (list_start starts.items cells.items i ≤ list_start starts.items cells.items (i + 1)) × (list_start starts.items cells.items (i + 1) ≤ array_vec_len cells) },
-    ghost rising: { (i : ℕ) → i < array_vec_len starts → list_at starts.items cells.items i ≡ numbers_to 128 (stands_in (list_at starts.items cells.items i)) },
+    ghost ordered: { ListsOrdered starts.items cells.items },
+    ghost rising: { (i : ℕ) → i < array_vec_len starts → NumbersInOrder (list_at starts.items cells.items i) },
     ghost fits: { (i j : ℕ) → i < array_vec_len starts → stands_in (list_at starts.items cells.items i) j ≡ true → (1 ≤ j) × (j ≤ unknowns) },
 }

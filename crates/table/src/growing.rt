@@ -54,6 +54,7 @@ impl Growing for Table {
 
     ghost ROOM = { 1024 };
 
+    // Kept: `clear` and `add_unknown` read alike in the three sources. A shared form is no plainer: it needs a trait that lends `unknowns` of each.
     fn clear(&mut self) {
         self.rows.clear();
         self.unknowns = 0;

@@ -1,4 +1,4 @@
-use Rattle.std.proofs.Common.{◌≡◌, ◌-◌, [], ◌∷◌, ◌++◌, length, sym, ap, ◌∙◌, append_assoc, append-nil, arith, length-append}
+use Rattle.std.proofs.Common.{◌-◌, [], ◌∷◌, ◌++◌, length, sym, ap, ◌∙◌, append_assoc, append-nil, arith, length-append}
 use Rattle.sets.specs.Members.{member_of}
 use Rattle.sparse.specs.Cells.{numbers_to}
 use Rattle.sparse.proofs.Numbers.{numbers_none, numbers_step, numbers_short}

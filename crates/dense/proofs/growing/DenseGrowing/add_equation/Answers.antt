@@ -1,6 +1,5 @@
 use Rattle.std.proofs.Common.{◌≡◌, ℕ, ◌≤◌, true, refl, arith}
 use Rattle.std.proofs.lemmas.Bool.Decides.{nat_tests}
-use Rattle.std.proofs.lemmas.List.{length_push}
 use Rattle.sets.specs.Empty.{UnknownSet, no_unknown}
 use Rattle.sets.specs.Members.{member_of}
 use Rattle.source.proofs.Clipping.{clip_appended, rows_kept}
@@ -8,18 +7,15 @@ use Rattle.source.proofs.Rules.{accepted}
 use Rattle.dense.specs.Rows.{dense_means}
 use Rattle.dense.proofs.growing.DenseGrowing.add_equation.Goals as goal
 
-pub invariant_of-self : goal.invariant_of-self
-invariant_of-self c =
+pub invariant_of-self-clause-fits : goal.invariant_of-self-clause-fits
+invariant_of-self-clause-fits c =
     let d = c.args.self.now in
     let us = c.args.unknowns in
     let a = accepted _ (dense_means d) us.bits c.in_ok-admits_equation.ensures.rule in
-    let few = a.few in
-    rw c.push.ensures.items (record {
-      few = (omega (arith, length_push d.rows.items us), d.few.1);
-      fits = λ i j h.
-          rows_kept (λ (r : UnknownSet). (j : ℕ) → member_of r.bits j ≡ true → j ≤ d.unknowns) d.rows.items us no_unknown
-          (λ j m. let k = a.known j m in grind (arith, nat_tests)) (λ i h j. d.fits i j h) i h j;
-    })
+    rw c.push.ensures.items
+    (λ i j h.
+    rows_kept (λ (r : UnknownSet). (j : ℕ) → member_of r.bits j ≡ true → j ≤ d.unknowns) d.rows.items us no_unknown
+    (λ j m. let k = a.known j m in grind (arith, nat_tests)) (λ i h j. d.fits i j h) i h j)
 
 pub returns : goal.returns
 returns c =

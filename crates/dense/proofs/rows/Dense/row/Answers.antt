@@ -1,4 +1,4 @@
-use Rattle.std.proofs.Common.{arith, rules}
+use Rattle.std.proofs.Common.{arith}
 use Rattle.dense.proofs.Known.{row_says}
 use Rattle.dense.proofs.rows.Dense.row.Goals as goal
 

@@ -1,15 +1,14 @@
-use Rattle.std.proofs.Common.{◌≡◌, ℕ, ◌+◌, ◌-◌, ◌≤◌, true, List, ◌++◌, length, sym, ap, ◌∙◌, ⊎_elim, arith, length-append}
-use Rattle.std.proofs.lemmas.Bool.{cases_eq, eq-eqb, ne_eqb}
+use Rattle.std.proofs.Common.{◌≡◌, ℕ, ◌≤◌, true, length, sym, ◌∙◌, arith, length-append}
 use Rattle.std.proofs.lemmas.Bool.Decides.{nat_tests}
 use Rattle.std.proofs.lemmas.List.{length_push}
 use Rattle.sets.specs.Members.{member_of}
 use Rattle.source.proofs.Clipping.{clip_row}
 use Rattle.source.proofs.Rules.{accepted}
 use Rattle.arrayvec.specs.ArrayVec.{array_vec_len}
-use Rattle.sparse.specs.Cells.{stands_in, numbers_to}
+use Rattle.sparse.specs.Cells.{stands_in, numbers_to, NumbersInOrder}
 use Rattle.sparse.specs.Lists.{in_list, sparse_means}
 use Rattle.sparse.proofs.Appending.{start_kept, starts_ordered, lists_keep, list_written}
-use Rattle.sparse.proofs.Kept.{cells_counted, list_is}
+use Rattle.sparse.proofs.Kept.{cells_counted}
 use Rattle.sparse.proofs.Numbers.{members_within, numbers_counted, numbers_held, numbers_again}
 use Rattle.sparse.proofs.growing.SparseGrowing.add_equation.Goals as goal
 
@@ -33,12 +32,12 @@ invariant_of-self c =
     rw (rw c.len.ensures.value at c.push.ensures.items, c.fill.ensures) (record {
       few = (omega arith, s.few.1, omega (arith, a.spare, cells_counted s, length-append cells more, numbers_counted 128 S));
       first = start_kept starts cells more 0 (omega arith) ∙ s.first;
-      ordered = λ i h. starts_ordered starts cells more s.ordered i (omega arith);
-      rising = λ i h. lists_keep (λ xs. xs ≡ numbers_to 128 (stands_in xs)) starts cells more s.ordered (numbers_again 128 S (members_within bits)) s.rising i (omega arith);
+      ordered = starts_ordered starts cells more s.ordered;
+      rising = λ i h. lists_keep NumbersInOrder starts cells more s.ordered (numbers_again 128 S (members_within bits)) s.rising i h;
       fits = λ i j h.
           lists_keep (λ xs. (j : ℕ) → stands_in xs j ≡ true → (1 ≤ j) × (j ≤ s.unknowns)) starts cells more s.ordered
           (λ j m. let k = a.known j (sym (numbers_held 128 S (members_within bits) j) ∙ m) in (grind (arith, nat_tests), grind (arith, nat_tests)))
-          (λ i h j. s.fits i j h) i (omega arith) j;
+          (λ i h j. s.fits i j h) i h j;
     })
 
 pub returns : goal.returns

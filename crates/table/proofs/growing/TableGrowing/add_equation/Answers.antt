@@ -1,24 +1,20 @@
 use Rattle.std.proofs.Common.{◌≡◌, ℕ, ◌+◌, ◌-◌, ◌<◌, Bool, true, false, List, [], get_or, sym, ap, ◌∙◌, arith}
 use Rattle.std.proofs.lemmas.Bool.Decides.{nat_tests}
-use Rattle.std.proofs.lemmas.List.{length_push}
 use Rattle.sets.specs.Members.{member_of}
 use Rattle.source.proofs.Clipping.{clip_appended, rows_kept}
 use Rattle.source.proofs.Rules.{accepted}
 use Rattle.table.specs.Rows.{table_means}
 use Rattle.table.proofs.growing.TableGrowing.add_equation.Goals as goal
 
-pub invariant_of-self : goal.invariant_of-self
-invariant_of-self c =
+pub invariant_of-self-clause-fits : goal.invariant_of-self-clause-fits
+invariant_of-self-clause-fits c =
     let t = c.args.self.now in
     let row = c.flags.result in
     let a = accepted _ (table_means t) c.args.unknowns.bits c.in_ok-admits_equation.ensures.rule in
-    let few = a.few in
-    rw c.push.ensures.items (record {
-      few = (omega (arith, length_push t.rows.items row), t.few.1);
-      fits = λ i k h.
-          rows_kept (λ (r : List Bool). (k : ℕ) → get_or r k false ≡ true → k < t.unknowns) t.rows.items row []
-          (λ k m. let o = a.known (k + 1) (sym (c.flags.ensures k) ∙ m) in grind (arith, nat_tests)) (λ i h k. t.fits i k h) i h k;
-    })
+    rw c.push.ensures.items
+    (λ i k h.
+    rows_kept (λ (r : List Bool). (k : ℕ) → get_or r k false ≡ true → k < t.unknowns) t.rows.items row []
+    (λ k m. let o = a.known (k + 1) (sym (c.flags.ensures k) ∙ m) in grind (arith, nat_tests)) (λ i h k. t.fits i k h) i h k)
 
 pub returns : goal.returns
 returns c =
