@@ -1,5 +1,5 @@
 //! How the dense source is kept.
-ghost use Rattle.std.specs.Prelude.{◌≡◌, ℕ, ◌<◌, ◌≤◌, true, length, slice_index_or};
+ghost use Rattle.std.specs.Prelude.{◌≡◌, ℕ, ◌<◌, ◌≤◌, true, slice_index_or};
 ghost use Rattle.sets.specs.Members.{member_of};
 ghost use Rattle.sets.specs.Empty.{no_unknown};
 ghost use Rattle.arrayvec.specs.ArrayVec.{array_vec_len};

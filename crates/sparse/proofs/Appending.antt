@@ -19,7 +19,7 @@ start_kept starts cells more i h =
     get_or_append_left starts (length cells ∷ []) (length (cells ++ more)) i (omega arith) ∙ get_or_default starts i _ _ (omega arith))
     (cases_eq i (length starts))
 
-pub start_new : (starts cells more : List ℕ) (i : ℕ) → i ≡ length starts + 1 → list_start (starts_with starts cells) (cells ++ more) i ≡ length cells + length more
+start_new : (starts cells more : List ℕ) (i : ℕ) → i ≡ length starts + 1 → list_start (starts_with starts cells) (cells ++ more) i ≡ length cells + length more
 start_new starts cells more i e =
     get_or_past (starts_with starts cells) i (length (cells ++ more)) (omega (arith, length_push starts (length cells))) ∙ length-append cells more
 
@@ -31,21 +31,22 @@ range_new : (xs ys : List ℕ) → slice_range (xs ++ ys) (length xs) (length xs
 range_new xs ys = ap (take (length xs + length ys - length xs)) (drop_at xs ys (length xs) refl) ∙ take_all _ ys (omega arith)
 
 -- the old lists are as they were
-pub list_kept : (starts cells more : List ℕ) (i : ℕ) → ListsOrdered starts cells → i < length starts
+list_kept : (starts cells more : List ℕ) (i : ℕ) → ListsOrdered starts cells → i < length starts
     → list_at (starts_with starts cells) (cells ++ more) i ≡ list_at starts cells i
 list_kept starts cells more i a h =
     let o = a i h in
     rw (start_kept starts cells more i (omega arith), start_kept starts cells more (i + 1) (omega arith)) (range_kept cells more _ _ o.0 o.1)
 
 -- the last list is the new one
-pub list_new : (starts cells more : List ℕ) (i : ℕ) → i ≡ length starts → list_at (starts_with starts cells) (cells ++ more) i ≡ more
+list_new : (starts cells more : List ℕ) (i : ℕ) → i ≡ length starts → list_at (starts_with starts cells) (cells ++ more) i ≡ more
 list_new starts cells more i e =
     let a : list_start (starts_with starts cells) (cells ++ more) i ≡ length cells =
     get_or_at starts (length cells) [] (length (cells ++ more)) i (sym e) in
     rw (a, start_new starts cells more (i + 1) (omega arith)) (range_new cells more)
 
 -- what is true of each list, and of one more behind them
-pub lists_keep : (Q : List ℕ → Type 0) (starts cells more : List ℕ) → ListsOrdered starts cells → Q more → ((i : ℕ) → i < length starts → Q (list_at starts cells i)) → (i : ℕ) → i < length (starts_with starts cells) → Q (list_at (starts_with starts cells) (cells ++ more) i)
+pub lists_keep : (Q : List ℕ → Type 0) (starts cells more : List ℕ) → ListsOrdered starts cells → Q more
+    → ((i : ℕ) → i < length starts → Q (list_at starts cells i)) → (i : ℕ) → i < length (starts_with starts cells) → Q (list_at (starts_with starts cells) (cells ++ more) i)
 lists_keep Q starts cells more o new old i h =
     let n = length_push starts (length cells) in
     ⊎_elim
@@ -71,7 +72,8 @@ starts_ordered starts cells more o i h =
     (cases_eq i (length starts))
 
 -- the list of each equation, where the new one holds just the numbers of S
-pub list_written : (starts cells more : List ℕ) (S : ℕ → Bool) → ListsOrdered starts cells → ((x : ℕ) → stands_in more x ≡ S x) → (i j : ℕ) → 1 ≤ i → i ≤ length starts + 1
+pub list_written : (starts cells more : List ℕ) (S : ℕ → Bool) → ListsOrdered starts cells → ((x : ℕ) → stands_in more x ≡ S x)
+    → (i j : ℕ) → 1 ≤ i → i ≤ length starts + 1
     → stands_in (slice_range (cells ++ more) (list_start (starts_with starts cells) (cells ++ more) (i - 1)) (list_start (starts_with starts cells) (cells ++ more) i)) j
     ≡ cond (eqb i (length starts + 1)) (S j) (stands_in (slice_range cells (list_start starts cells (i - 1)) (list_start starts cells i)) j)
 list_written starts cells more S o held i j p q =

@@ -17,10 +17,10 @@ use Rattle.sparse.specs.Lists.{end_of, list_of, in_list, sparse_means, sparse_bo
 use Rattle.sparse.proofs.Numbers.{FoundFrom, numbers_counted, number_from}
 
 -- behind the last list the cells end
-pub end_past : (s : Sparse) (i : ℕ) → array_vec_len s.starts ≤ i → end_of s i ≡ array_vec_len s.cells
+end_past : (s : Sparse) (i : ℕ) → array_vec_len s.starts ≤ i → end_of s i ≡ array_vec_len s.cells
 end_past s i h = get_or_past s.starts.items i (array_vec_len s.cells) h
 
-pub list_is : (s : Sparse) (i : ℕ) → 1 ≤ i → list_of s i ≡ list_at s.starts.items s.cells.items (i - 1)
+list_is : (s : Sparse) (i : ℕ) → 1 ≤ i → list_of s i ≡ list_at s.starts.items s.cells.items (i - 1)
 list_is s i p = let e : i - 1 + 1 ≡ i = omega arith in rw e refl
 
 range_empty : (xs : List ℕ) (a : ℕ) → slice_range xs a a ≡ []
@@ -37,7 +37,7 @@ list_none s i h =
     (cases_lt i 1)
 
 -- each list is the numbers that stand in it, rising
-pub list_rising : (s : Sparse) (i : ℕ) → 1 ≤ i → i ≤ array_vec_len s.starts → list_of s i ≡ numbers_to 128 (in_list s i)
+list_rising : (s : Sparse) (i : ℕ) → 1 ≤ i → i ≤ array_vec_len s.starts → list_of s i ≡ numbers_to 128 (in_list s i)
 list_rising s i p q =
     let e = list_is s i p in
     e ∙ s.rising (i - 1) (omega arith) ∙ ap (λ xs. numbers_to 128 (stands_in xs)) (sym e)
@@ -80,7 +80,7 @@ range_counted : (xs : List ℕ) (a z : ℕ) → a ≤ z → z ≤ length xs → 
 range_counted xs a z p q = omega (arith, length-take (z - a) (drop a xs), length-drop a xs)
 
 -- the cells before list k are the pairs of the equations up to k
-pub lists_counted : (s : Sparse) (k : ℕ) → k ≤ array_vec_len s.starts → pairs_to (sparse_means s) k ≡ end_of s k
+lists_counted : (s : Sparse) (k : ℕ) → k ≤ array_vec_len s.starts → pairs_to (sparse_means s) k ≡ end_of s k
 lists_counted s zero h = pairs_to_none (sparse_means s) ∙ sym s.first
 lists_counted s (suc k) h =
     let e : suc k ≡ k + 1 = omega arith in

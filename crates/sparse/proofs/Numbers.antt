@@ -14,7 +14,7 @@ use Rattle.source.proofs.Sums.{how_many-range, how_many_step, how_many_up}
 use Rattle.sparse.specs.Cells.{stands_in, numbers_to}
 
 -- one number more
-pub numbers_more : (n : ℕ) (S : ℕ → Bool) → numbers_to (n + 1) S ≡ numbers_to n S ++ cond (S (n + 1)) ((n + 1) ∷ []) []
+numbers_more : (n : ℕ) (S : ℕ → Bool) → numbers_to (n + 1) S ≡ numbers_to n S ++ cond (S (n + 1)) ((n + 1) ∷ []) []
 unfolding numbers_to
 numbers_more n S =
     let m = filter_of_map_range_with_len_more S (λ x. x) 1 n (n + 1) (omega arith) in

@@ -13,7 +13,7 @@ pub struct Sparse {
     pub(crate) cells: ArrayVec<u8, 1024>,
     pub(crate) starts: ArrayVec<usize, MOST_EQUATIONS>,
     pub(crate) unknowns: usize,
-    ghost few: { (array_vec_len starts ≤ 112) × (unknowns ≤ 128) × (array_vec_len cells ≤ 1024) },
+    ghost few: { (array_vec_len starts ≤ 112) × (unknowns ≤ 128) },
     ghost first: { list_start starts.items cells.items 0 ≡ 0 },
     ghost ordered: { ListsOrdered starts.items cells.items },
     ghost rising: { (i : ℕ) → i < array_vec_len starts → NumbersInOrder (list_at starts.items cells.items i) },

@@ -1,4 +1,4 @@
-use Rattle.std.proofs.Common.{◌≡◌, ℕ, ◌≤◌, true, length, sym, ◌∙◌, arith, length-append}
+use Rattle.std.proofs.Common.{◌≡◌, ℕ, ◌≤◌, true, length, sym, ◌∙◌, arith}
 use Rattle.std.proofs.lemmas.Bool.Decides.{nat_tests}
 use Rattle.std.proofs.lemmas.List.{length_push}
 use Rattle.sets.specs.Members.{member_of}
@@ -9,7 +9,7 @@ use Rattle.sparse.specs.Cells.{stands_in, numbers_to, NumbersInOrder}
 use Rattle.sparse.specs.Lists.{in_list, sparse_means}
 use Rattle.sparse.proofs.Appending.{start_kept, starts_ordered, lists_keep, list_written}
 use Rattle.sparse.proofs.Kept.{cells_counted}
-use Rattle.sparse.proofs.Numbers.{members_within, numbers_counted, numbers_held, numbers_again}
+use Rattle.sparse.proofs.Numbers.{members_within, numbers_held, numbers_again}
 use Rattle.sparse.proofs.growing.SparseGrowing.add_equation.Goals as goal
 
 pub fill-requires : goal.fill-requires
@@ -30,7 +30,7 @@ invariant_of-self c =
     let few = a.few in
     let long = length_push starts (length cells) in
     rw (rw c.len.ensures.value at c.push.ensures.items, c.fill.ensures) (record {
-      few = (omega arith, s.few.1, omega (arith, a.spare, cells_counted s, length-append cells more, numbers_counted 128 S));
+      few = (omega arith, s.few.1);
       first = start_kept starts cells more 0 (omega arith) ∙ s.first;
       ordered = starts_ordered starts cells more s.ordered;
       rising = λ i h. lists_keep NumbersInOrder starts cells more s.ordered (numbers_again 128 S (members_within bits)) s.rising i h;
