@@ -1,9 +1,11 @@
 //! The dense source answers and grows.
-ghost use Rattle.std.specs.Prelude.{◌≡◌};
+ghost use Rattle.std.specs.Prelude.{◌≡◌, ℕ, false, MatchOption};
+ghost use Rattle.sets.specs.Members.{member_of};
 ghost use Rattle.source.specs.Growth.{vacant};
 ghost use Rattle.dense.specs.Rows.{dense_means, dense_bounded};
 
 use crate::rows::Dense;
+use arrayvec::ArrayVec;
 use sets::numbers::UnknownSet;
 use source::faults::SourceFault;
 use source::growing::{Growing, admits_equation, admits_unknown};
@@ -15,10 +17,16 @@ impl Dense {
         ensures { dense_means result ≡ vacant }
     {
         Dense {
-            rows: [UnknownSet::empty(); 112],
-            equations: 0,
+            rows: ArrayVec::new(),
             unknowns: 0,
         }
+    }
+
+    /// The row of an equation; none for a number that does not exist.
+    fn row(&self, equation: usize) -> Option<UnknownSet>
+        ensures { MatchOption result ((j : ℕ) → (dense_means self.now).holds equation j ≡ false) (λ row. (j : ℕ) → (dense_means self.now).holds equation j ≡ member_of row.bits j) }
+    {
+        self.rows.get(equation.checked_sub(1)?).copied()
     }
 }
 
@@ -28,7 +36,7 @@ impl Source for Dense {
     ghost bounded = { dense_bounded };
 
     fn equations(&self) -> usize {
-        self.equations
+        self.rows.len()
     }
 
     fn unknowns(&self) -> usize {
@@ -36,48 +44,29 @@ impl Source for Dense {
     }
 
     fn holds(&self, equation: usize, unknown: usize) -> bool {
-        if equation == 0 {
-            return false;
-        }
-        if equation > self.equations {
-            return false;
-        }
-        self.rows[equation - 1].holds(unknown)
+        self.row(equation).is_some_and(|row| row.holds(unknown))
     }
 
     fn pairs(&self) -> usize {
-        let mut pairs = 0;
-        for i in 0..self.equations {
-            pairs += self.rows[i].len();
-        }
-        pairs
+        self.rows.iter().map(|row| row.len()).sum()
     }
 
     fn next(&self, equation: usize, unknown: usize) -> Option<usize> {
-        if equation == 0 {
-            return None;
-        }
-        if equation > self.equations {
-            return None;
-        }
         if unknown == 0 {
             return None;
         }
-        self.rows[equation - 1].next_from(unknown)
+        self.row(equation)?.next_from(unknown)
     }
 }
 
 impl Growing for Dense {
     const ROOM: usize = 14336;
 
-    ghost room = { 14336 };
+    ghost ROOM = { 14336 };
 
-    fn capacity() -> usize {
-        Self::ROOM
-    }
-
+    // Kept: `clear` and `add_unknown` read alike in the three sources. A shared form is no plainer: it needs a trait that lends `unknowns` of each.
     fn clear(&mut self) {
-        self.equations = 0;
+        self.rows.clear();
         self.unknowns = 0;
     }
 
@@ -89,8 +78,7 @@ impl Growing for Dense {
 
     fn add_equation(&mut self, unknowns: UnknownSet) -> Result<(), SourceFault> {
         admits_equation(self, Self::ROOM, unknowns)?;
-        self.rows[self.equations] = unknowns;
-        self.equations += 1;
+        self.rows.push(unknowns);
         Ok(())
     }
 }

@@ -12,7 +12,7 @@ pub enum Equation {}
 pub enum Unknown {}
 
 /// A set of numbers from 1 to 128. Bit `i - 1` of `bits` stands for the number `i`, and `K` says what is numbered.
-#[derive_where(Clone, Copy, PartialEq, Eq)]
+#[derive_where(Clone, Copy, Default, PartialEq, Eq)]
 pub struct Numbers<K> {
     bits: u128,
     kind: PhantomData<K>,

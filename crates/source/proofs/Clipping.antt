@@ -1,6 +1,6 @@
 -- Sources that stand for a relation cut down to their numbers: what additions make of it. Assumes nothing.
-use Rattle.std.proofs.Common.{◌≡◌, ℕ, ◌+◌, ◌-◌, ◌<◌, ◌≤◌, Bool, true, false, cond, ◌&&◌, eqb, List, length, get_or, set, sym, refl, ap, ◌∙◌, subst, ⊎_elim, arith}
-use Rattle.std.proofs.lemmas.List.{get_or-set_same, get_or-set_other}
+use Rattle.std.proofs.Common.{◌≡◌, ℕ, ◌+◌, ◌-◌, ◌<◌, ◌≤◌, Bool, true, false, cond, ◌&&◌, eqb, List, [], ◌∷◌, ◌++◌, length, get_or, set, sym, refl, ap, ◌∙◌, subst, ⊎_elim, arith}
+use Rattle.std.proofs.lemmas.List.{get_or-set_same, get_or-set_other, get_or_append_left, get_or_at, length_push}
 use Rattle.std.proofs.lemmas.Bool.{cases_eq, eq-eqb, ne_eqb, cond-true, cond-false}
 use Rattle.std.proofs.lemmas.Bool.Decides.{nat_tests}
 use Rattle.sets.specs.Counting.{one_of, how_many}
@@ -66,3 +66,34 @@ rows_keep Q rows e x d l new old i h =
     (λ (q : i ≡ e). subst Q (sym (set_at rows e i x d l ∙ cond-true _ _ _ (eq-eqb i e q))) new)
     (λ (q : i ≡ e → ⊥). subst Q (sym (set_at rows e i x d l ∙ cond-false _ _ _ (ne_eqb i e q))) (old i (omega arith)))
     (cases_eq i e)
+
+-- One row of a source appended, where `read` says which unknowns a row holds: the last row is the new one, and the others are as they were.
+row_appended : {X : Type 0} (read : X → ℕ → Bool) (rows : List X) (x d : X) (i j : ℕ) → 1 ≤ i → i ≤ length rows + 1
+    → read (get_or (rows ++ x ∷ []) (i - 1) d) j ≡ cond (eqb i (length rows + 1)) (read x j) (read (get_or rows (i - 1) d) j)
+row_appended read rows x d i j p q =
+    ⊎_elim
+    (λ (e : i ≡ length rows + 1).
+    let s : i - 1 ≡ length rows = omega arith in
+    rw (eq-eqb i (length rows + 1) e) (ap (λ r. read r j) (get_or_at rows x [] d (i - 1) (sym s))))
+    (λ (e : i ≡ length rows + 1 → ⊥).
+    rw (ne_eqb i (length rows + 1) e) (ap (λ r. read r j) (get_or_append_left rows (x ∷ []) d (i - 1) (omega arith))))
+    (cases_eq i (length rows + 1))
+
+-- what the rows stand for, with one more that holds S behind them
+pub clip_appended : {X : Type 0} (read : X → ℕ → Bool) (rows : List X) (x d : X) (n : ℕ) (S : ℕ → Bool) → ((j : ℕ) → S j ≡ true → one_of n j ≡ true)
+    → ((j : ℕ) → 1 ≤ j → read x j ≡ S j)
+    → clipped (length (rows ++ x ∷ [])) n (λ i j. read (get_or (rows ++ x ∷ []) (i - 1) d) j) ≡ with_row (clipped (length rows) n (λ i j. read (get_or rows (i - 1) d) j)) S
+clip_appended read rows x d n S w same =
+    rw (length_push rows x)
+    (clip_row (length rows) n (λ i j. read (get_or rows (i - 1) d) j) (λ i j. read (get_or (rows ++ x ∷ []) (i - 1) d) j) S w
+    (λ i j p q r _. rw (sym (same j r)) (row_appended read rows x d i j p q)))
+
+-- what is true of each row, and of one more behind them
+pub rows_kept : {X : Type 0} (Q : X → Type 0) (rows : List X) (x d : X) → Q x → ((i : ℕ) → i < length rows → Q (get_or rows i d))
+    → (i : ℕ) → i < length (rows ++ x ∷ []) → Q (get_or (rows ++ x ∷ []) i d)
+rows_kept Q rows x d new old i h =
+    let l = length_push rows x in
+    ⊎_elim
+    (λ (q : i ≡ length rows). subst Q (sym (get_or_at rows x [] d i (sym q))) new)
+    (λ (q : i ≡ length rows → ⊥). subst Q (sym (get_or_append_left rows (x ∷ []) d i (omega arith))) (old i (omega arith)))
+    (cases_eq i (length rows))

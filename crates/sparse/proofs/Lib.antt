@@ -1,4 +1,3 @@
-pub mod Stretches
+pub mod Numbers
 pub mod Kept
-pub mod Writing
 pub mod Appending

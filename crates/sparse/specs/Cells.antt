@@ -1,17 +1,28 @@
--- Numbers in a stretch of cells. Assumes nothing.
-use Rattle.std.specs.Prelude.{◌≡◌, ℕ, zero, suc, ◌+◌, ◌<◌, ◌≤◌, Bool, true, false, ◌||◌, List, length, ◌==◌, slice_index}
-use Rattle.sets.specs.Counting.{how_many}
+-- Lists of numbers that stand one behind the other. Assumes nothing.
+use Rattle.std.specs.Prelude.{◌≡◌, ℕ, ◌+◌, ◌<◌, ◌≤◌, Bool, List, length, ◌==◌, slice_index_or, slice_range}
+use Rattle.std.specs.List.{filter, list_any, range_with_len}
 
--- whether x stands in one of the d cells from place a on
-unfoldable pub stands_in : List ℕ → ℕ → ℕ → ℕ → Bool
-stands_in cells a zero x = false
-stands_in cells a (suc d) x = slice_index cells (a + d) == x || stands_in cells a d x
+-- whether x stands in a list
+abbrev pub stands_in : List ℕ → ℕ → Bool
+stands_in xs x = list_any (λ y. y == x) xs
 
--- the numbers of S up to j stand in the cells from place a up to place z, rising; the cells before a are as they were
-pub record NumbersWritten (before after : List ℕ) (S : ℕ → Bool) (a z j : ℕ) : Type 0 where
-  pub long : length after ≡ length before
-  pub size : z ≡ a + how_many j S
-  pub same : (k : ℕ) → k < a → slice_index after k ≡ slice_index before k
-  pub rising : (p q : ℕ) → a ≤ p → p < q → q < z → slice_index after p < slice_index after q
-  pub sound : (k : ℕ) → a ≤ k → k < z → (S (slice_index after k) ≡ true) × (slice_index after k ≤ j)
-  pub complete : (x : ℕ) → 1 ≤ x → x ≤ j → S x ≡ true → (k : ℕ) × (a ≤ k) × (k < z) × (slice_index after k ≡ x)
+-- the numbers of S from 1 to n, rising
+unfoldable pub numbers_to : ℕ → (ℕ → Bool) → List ℕ
+numbers_to n S = filter S (range_with_len 1 n)
+
+-- where list i, counted from 0, begins; behind the last list, where the cells end
+abbrev pub list_start : List ℕ → List ℕ → ℕ → ℕ
+list_start starts cells i = slice_index_or starts i (length cells)
+
+-- list i, counted from 0
+abbrev pub list_at : List ℕ → List ℕ → ℕ → List ℕ
+list_at starts cells i = slice_range cells (list_start starts cells i) (list_start starts cells (i + 1))
+
+-- each list ends where it begins or behind that, and within the cells
+abbrev pub ListsOrdered : List ℕ → List ℕ → Type 0
+ListsOrdered starts cells =
+    (i : ℕ) → i < length starts → (list_start starts cells i ≤ list_start starts cells (i + 1)) × (list_start starts cells (i + 1) ≤ length cells)
+
+-- a list that is the numbers which stand in it, from 1 to 128 and rising
+abbrev pub NumbersInOrder : List ℕ → Type 0
+NumbersInOrder xs = xs ≡ numbers_to 128 (stands_in xs)

@@ -1,24 +1,28 @@
 -- What the sparse source stands for. Assumes nothing.
-use Rattle.std.specs.Prelude.{ℕ, ◌-◌, Bool, cond, slice_index}
+use Rattle.std.specs.Prelude.{ℕ, ◌-◌, Bool, List, slice_range}
 use Rattle.std.proofs.Common.{arith}
-use Rattle.sets.specs.Counting.{one_of}
 use Rattle.source.specs.Meaning.{Meaning, WithinLimits, clipped, clipped_bounded}
+use Rattle.arrayvec.specs.ArrayVec.{array_vec_len}
 use Rattle.sparse.specs.declared.lists.Sparse.{Sparse}
-use Rattle.sparse.specs.Cells.{stands_in}
+use Rattle.sparse.specs.Cells.{stands_in, list_start}
 
--- where the list of equation i begins and ends
-abbrev pub start_of : Sparse → ℕ → ℕ
-start_of s i = cond (one_of s.equations i) (slice_index s.ends (i - 1)) 0
-
+-- where the list of equation i ends and begins
 abbrev pub end_of : Sparse → ℕ → ℕ
-end_of s i = cond (one_of s.equations i) (slice_index s.ends i) 0
+end_of s i = list_start s.starts.items s.cells.items i
+
+abbrev pub start_of : Sparse → ℕ → ℕ
+start_of s i = end_of s (i - 1)
+
+-- the list of equation i
+abbrev pub list_of : Sparse → ℕ → List ℕ
+list_of s i = slice_range s.cells.items (start_of s i) (end_of s i)
 
 -- whether j is in the list of equation i
 abbrev pub in_list : Sparse → ℕ → ℕ → Bool
-in_list s i j = stands_in s.cells (start_of s i) (end_of s i - start_of s i) j
+in_list s i j = stands_in (list_of s i) j
 
 abbrev pub sparse_means : Sparse → Meaning
-sparse_means s = clipped s.equations s.unknowns (in_list s)
+sparse_means s = clipped (array_vec_len s.starts) s.unknowns (in_list s)
 
 pub sparse_bounded : (s : Sparse) → WithinLimits (sparse_means s)
-sparse_bounded s = clipped_bounded s.equations s.unknowns (in_list s) (omega (arith, s.few.0)) s.few.1
+sparse_bounded s = clipped_bounded (array_vec_len s.starts) s.unknowns (in_list s) (omega (arith, s.few.0)) s.few.1

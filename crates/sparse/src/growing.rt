@@ -1,10 +1,11 @@
 //! The sparse source answers and grows.
-ghost use Rattle.std.specs.Prelude.{◌≡◌, ◌≤◌};
+ghost use Rattle.std.specs.Prelude.{◌≡◌};
 ghost use Rattle.source.specs.Growth.{vacant};
-ghost use Rattle.sparse.specs.Lists.{start_of, end_of, sparse_means, sparse_bounded};
+ghost use Rattle.sparse.specs.Lists.{end_of, list_of, sparse_means, sparse_bounded};
 
 use crate::filling::fill;
 use crate::lists::Sparse;
+use arrayvec::ArrayVec;
 use sets::numbers::UnknownSet;
 use source::faults::SourceFault;
 use source::growing::{Growing, admits_equation, admits_unknown};
@@ -16,27 +17,27 @@ impl Sparse {
         ensures { sparse_means result ≡ vacant }
     {
         Sparse {
-            cells: [0; 1024],
-            ends: [0; 113],
-            equations: 0,
+            cells: ArrayVec::new(),
+            starts: ArrayVec::new(),
             unknowns: 0,
         }
     }
 
-    /// Where the list of an equation begins and ends; an empty stretch for a number that does not exist.
-    fn places(&self, equation: usize) -> (usize, usize)
-        ensures start { result.0 ≡ start_of self.now equation }
-        ensures end { result.1 ≡ end_of self.now equation }
-        ensures order { result.0 ≤ result.1 }
-        ensures within { result.1 ≤ 1024 }
+    /// Where the list of an equation ends: where the next one begins, or where the cells end.
+    fn end(&self, equation: usize) -> usize
+        ensures { result ≡ end_of self.now equation }
     {
-        if equation == 0 {
-            return (0, 0);
-        }
-        if equation > self.equations {
-            return (0, 0);
-        }
-        (self.ends[equation - 1], self.ends[equation])
+        self.starts
+            .get(equation)
+            .copied()
+            .unwrap_or(self.cells.len())
+    }
+
+    /// The list of an equation; empty for a number that does not exist.
+    fn list(&self, equation: usize) -> &[u8]
+        ensures { result.now ≡ list_of self.now equation }
+    {
+        &self.cells[self.end(equation.saturating_sub(1))..self.end(equation)]
     }
 }
 
@@ -46,7 +47,7 @@ impl Source for Sparse {
     ghost bounded = { sparse_bounded };
 
     fn equations(&self) -> usize {
-        self.equations
+        self.starts.len()
     }
 
     fn unknowns(&self) -> usize {
@@ -54,45 +55,35 @@ impl Source for Sparse {
     }
 
     fn holds(&self, equation: usize, unknown: usize) -> bool {
-        let (start, end) = self.places(equation);
-        for k in start..end {
-            if self.cells[k] as usize == unknown {
-                return true;
-            }
-        }
-        false
+        self.list(equation)
+            .iter()
+            .any(|&cell| usize::from(cell) == unknown)
     }
 
     fn pairs(&self) -> usize {
-        self.ends[self.equations]
+        self.cells.len()
     }
 
     fn next(&self, equation: usize, unknown: usize) -> Option<usize> {
         if unknown == 0 {
             return None;
         }
-        let (start, end) = self.places(equation);
-        for k in start..end {
-            let found = self.cells[k] as usize;
-            if found >= unknown {
-                return Some(found);
-            }
-        }
-        None
+        self.list(equation)
+            .iter()
+            .map(|&cell| usize::from(cell))
+            .find(|&found| found >= unknown)
     }
 }
 
 impl Growing for Sparse {
     const ROOM: usize = 1024;
 
-    ghost room = { 1024 };
+    ghost ROOM = { 1024 };
 
-    fn capacity() -> usize {
-        Self::ROOM
-    }
-
+    // Kept: `clear` and `add_unknown` read alike in the three sources. A shared form is no plainer: it needs a trait that lends `unknowns` of each.
     fn clear(&mut self) {
-        self.equations = 0;
+        self.cells.clear();
+        self.starts.clear();
         self.unknowns = 0;
     }
 
@@ -104,11 +95,8 @@ impl Growing for Sparse {
 
     fn add_equation(&mut self, unknowns: UnknownSet) -> Result<(), SourceFault> {
         admits_equation(self, Self::ROOM, unknowns)?;
-        let last = self.equations;
-        let start = self.ends[last];
-        let end = fill(&mut self.cells, start, unknowns);
-        self.ends[last + 1] = end;
-        self.equations = last + 1;
+        self.starts.push(self.cells.len());
+        fill(&mut self.cells, unknowns);
         Ok(())
     }
 }

@@ -1,16 +1,21 @@
 //! How the sparse source is kept.
-ghost use Rattle.std.specs.Prelude.{◌≡◌, ℕ, ◌+◌, ◌<◌, ◌≤◌, length, slice_index};
+ghost use Rattle.std.specs.Prelude.{◌≡◌, ℕ, ◌+◌, ◌<◌, ◌≤◌, true};
+ghost use Rattle.arrayvec.specs.ArrayVec.{array_vec_len};
+ghost use Rattle.sparse.specs.Cells.{stands_in, list_start, list_at, ListsOrdered, NumbersInOrder};
+
+use arrayvec::ArrayVec;
+use source::growing::MOST_EQUATIONS;
 
 /// A growing source with a list of unknown numbers for each equation. The lists stand one behind the other in `cells`, each rising;
-/// that of equation `i` from place `ends[i - 1]` on and up to place `ends[i]`.
+/// that of equation `i` from place `starts[i - 1]` on and up to the start of the next list, or to the end of the cells.
 #[derive(Drop)]
 pub struct Sparse {
-    pub(crate) cells: [u8; 1024],
-    pub(crate) ends: [usize; 113],
-    pub(crate) equations: usize,
+    pub(crate) cells: ArrayVec<u8, 1024>,
+    pub(crate) starts: ArrayVec<usize, MOST_EQUATIONS>,
     pub(crate) unknowns: usize,
-    ghost few: { (equations ≤ 112) × (unknowns ≤ 128) × (length cells ≡ 1024) × (length ends ≡ 113) },
-    ghost ordered: { (slice_index ends 0 ≡ 0) × (slice_index ends equations ≤ 1024) × ((i : ℕ) → i < equations → slice_index ends i ≤ slice_index ends (i + 1)) },
-    ghost rising: { (i a b : ℕ) → (i < equations) × (slice_index ends i ≤ a) × (a < b) × (b < slice_index ends (i + 1)) → slice_index cells a < slice_index cells b },
-    ghost known: { (k : ℕ) → k < slice_index ends equations → (1 ≤ slice_index cells k) × (slice_index cells k ≤ unknowns) },
+    ghost few: { (array_vec_len starts ≤ 112) × (unknowns ≤ 128) },
+    ghost first: { list_start starts.items cells.items 0 ≡ 0 },
+    ghost ordered: { ListsOrdered starts.items cells.items },
+    ghost rising: { (i : ℕ) → i < array_vec_len starts → NumbersInOrder (list_at starts.items cells.items i) },
+    ghost fits: { (i j : ℕ) → i < array_vec_len starts → stands_in (list_at starts.items cells.items i) j ≡ true → (1 ≤ j) × (j ≤ unknowns) },
 }

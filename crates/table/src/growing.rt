@@ -1,10 +1,11 @@
 //! The table answers and grows.
-ghost use Rattle.std.specs.Prelude.{◌≡◌};
+ghost use Rattle.std.specs.Prelude.{◌≡◌, false, MatchOption};
 ghost use Rattle.source.specs.Growth.{vacant};
 ghost use Rattle.table.specs.Rows.{table_means, table_bounded};
 
 use crate::flags::flags;
 use crate::kept::Table;
+use arrayvec::ArrayVec;
 use sets::numbers::UnknownSet;
 use source::faults::SourceFault;
 use source::growing::{Growing, admits_equation, admits_unknown};
@@ -16,10 +17,17 @@ impl Table {
         ensures { table_means result ≡ vacant }
     {
         Table {
-            rows: [[false; 128]; 112],
-            equations: 0,
+            rows: ArrayVec::new(),
             unknowns: 0,
         }
+    }
+
+    /// The flag of an equation for an unknown; none where one of the numbers has no place in the table.
+    fn flag(&self, equation: usize, unknown: usize) -> Option<bool>
+        ensures { MatchOption result ((table_means self.now).holds equation unknown ≡ false) (λ flag. (table_means self.now).holds equation unknown ≡ flag) }
+    {
+        let row = self.rows.get(equation.checked_sub(1)?)?;
+        row.get(unknown.checked_sub(1)?).copied()
     }
 }
 
@@ -29,7 +37,7 @@ impl Source for Table {
     ghost bounded = { table_bounded };
 
     fn equations(&self) -> usize {
-        self.equations
+        self.rows.len()
     }
 
     fn unknowns(&self) -> usize {
@@ -37,33 +45,18 @@ impl Source for Table {
     }
 
     fn holds(&self, equation: usize, unknown: usize) -> bool {
-        if equation == 0 {
-            return false;
-        }
-        if equation > self.equations {
-            return false;
-        }
-        if unknown == 0 {
-            return false;
-        }
-        if unknown > self.unknowns {
-            return false;
-        }
-        self.rows[equation - 1][unknown - 1]
+        self.flag(equation, unknown).unwrap_or(false)
     }
 }
 
 impl Growing for Table {
     const ROOM: usize = 1024;
 
-    ghost room = { 1024 };
+    ghost ROOM = { 1024 };
 
-    fn capacity() -> usize {
-        Self::ROOM
-    }
-
+    // Kept: `clear` and `add_unknown` read alike in the three sources. A shared form is no plainer: it needs a trait that lends `unknowns` of each.
     fn clear(&mut self) {
-        self.equations = 0;
+        self.rows.clear();
         self.unknowns = 0;
     }
 
@@ -75,8 +68,7 @@ impl Growing for Table {
 
     fn add_equation(&mut self, unknowns: UnknownSet) -> Result<(), SourceFault> {
         admits_equation(self, Self::ROOM, unknowns)?;
-        self.rows[self.equations] = flags(unknowns);
-        self.equations += 1;
+        self.rows.push(flags(unknowns));
         Ok(())
     }
 }

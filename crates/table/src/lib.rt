@@ -1,4 +1,4 @@
-//! A growing source of one's own, as an example: a table of yes and no. It keeps the bodies that the traits have for `pairs`, `next` and `room_for`.
+//! A growing source of one's own, as an example: a table of yes and no. It keeps the bodies that the traits have for `pairs`, `next`, `capacity` and `room_for`.
 #![tactic(auto)]
 
 mod flags;

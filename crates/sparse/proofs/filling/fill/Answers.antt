@@ -1,33 +1,35 @@
-use Rattle.std.proofs.Common.{sym, arith}
+use Rattle.std.proofs.Common.{◌-◌, [], ◌∷◌, ◌++◌, length, sym, ap, ◌∙◌, append_assoc, append-nil, arith, length-append}
 use Rattle.sets.specs.Members.{member_of}
-use Rattle.sparse.proofs.Writing.{filled_none, filled_skip, filled_more, room_left}
+use Rattle.sparse.specs.Cells.{numbers_to}
+use Rattle.sparse.proofs.Numbers.{numbers_none, numbers_step, numbers_short}
 use Rattle.sparse.proofs.filling.fill.Goals as goal
 use Rattle.sparse.proofs.filling.fill.Goals.{then-holds, else-holds}
 
-pub loop-j-init : goal.loop-j-init
-loop-j-init c = filled_none c.args.cells.now (member_of c.args.unknowns.bits) c.args.start
+pub loop-unknown-init : goal.loop-unknown-init
+loop-unknown-init g c =
+    sym (ap (λ xs. c.args.cells.now.items ++ xs) (numbers_none (member_of c.args.unknowns.bits)) ∙ append-nil c.args.cells.now.items)
 
-pub bounds-cells-end : goal.bounds-cells-end
-bounds-cells-end c =
-    room_left (member_of c.args.unknowns.bits) c.args.start c.loop-j.end c.loop-j.j c.loop-j.invariant.size (sym c.if-holds.ensures) (omega arith) c.requires
-
-pub overflow_add-end : goal.overflow_add-end
-overflow_add-end c =
-    let l =
-    room_left (member_of c.args.unknowns.bits) c.args.start c.loop-j.end c.loop-j.j c.loop-j.invariant.size (sym c.if-holds.ensures) (omega arith) c.requires in
-    omega arith
-
-pub loop-j-preserved : goal.loop-j-preserved
-loop-j-preserved c =
+pub push-requires : goal.push-requires
+push-requires g c =
     let S = member_of c.args.unknowns.bits in
-    let xs = c.args.cells.now in
-    let inv = c.loop-j.invariant in
+    let k = c.loop-unknown.unknown in
+    let first = c.loop-unknown.auto.unknown in
+    let s = numbers_short 128 k S first (omega arith) (ap S (sym c.into.ensures) ∙ sym c.if-holds.ensures) in
+    let l = ap length c.loop-unknown.invariant ∙ length-append c.args.cells.now.items (numbers_to (k - 1) S) in
+    (omega arith, omega (arith, c.requires))
+
+pub loop-unknown-preserved : goal.loop-unknown-preserved
+loop-unknown-preserved g c =
+    let S = member_of c.args.unknowns.bits in
+    let k = c.loop-unknown.unknown in
+    let step = numbers_step k S c.loop-unknown.auto.unknown in
     elim c.if-holds.branch [
       | then-holds w ↦
-          let e = sym w.if-holds.ensures in
-          let l = room_left S c.args.start c.loop-j.end c.loop-j.j inv.size e (omega arith) c.requires in
-          simp (w.cells-is, w.end-is) (filled_more xs c.loop-j.cells S c.args.start c.loop-j.end c.loop-j.j inv e (omega arith))
+          let e = ap S (sym c.into.ensures) ∙ sym w.if-holds.ensures in
+          let t = rw e at step in
+          rw (w.cells-is, t) (w.push.ensures.items ∙ ap (λ xs. xs ++ k ∷ []) c.loop-unknown.invariant ∙ append_assoc c.args.cells.now.items (numbers_to (k - 1) S) (k ∷ []))
       | else-holds w ↦
-          simp (w.cells-is, w.end-is)
-          (filled_skip xs c.loop-j.cells S c.args.start c.loop-j.end c.loop-j.j inv (sym w.if-holds.ensures))
+          let e = ap S (sym c.into.ensures) ∙ sym w.if-holds.ensures in
+          let t = rw e at step in
+          rw (w.cells-is, t) (c.loop-unknown.invariant ∙ ap (λ xs. c.args.cells.now.items ++ xs) (sym (append-nil _)))
     ]

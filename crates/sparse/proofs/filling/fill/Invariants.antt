@@ -1,6 +1,7 @@
+use Rattle.std.proofs.Common.{◌≡◌, ◌-◌, ◌++◌}
 use Rattle.sets.specs.Members.{member_of}
-use Rattle.sparse.specs.Cells.{NumbersWritten}
+use Rattle.sparse.specs.Cells.{numbers_to}
 use Rattle.sparse.proofs.filling.fill.Given as goal
 
-abbrev pub invariant-loop-j : goal.invariant-loop-j
-invariant-loop-j l = NumbersWritten l.initial.cells l.cells (member_of l.unknowns.bits) l.start l.end l.j
+abbrev pub invariant-loop-unknown : goal.invariant-loop-unknown
+invariant-loop-unknown g l = l.cells.items ≡ l.initial.cells.items ++ numbers_to (l.unknown - 1) (member_of l.unknowns.bits)
