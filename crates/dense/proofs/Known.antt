@@ -6,7 +6,6 @@ use Rattle.std.proofs.lemmas.List.Sums.{sum_by_more, sum_by-le}
 use Rattle.std.specs.Option.{option_copied}
 use Rattle.std.specs.Slice.{IsItemAt}
 use Rattle.sets.specs.Counting.{one_of, how_many}
-use Rattle.sets.specs.Empty.{UnknownSet, no_unknown}
 use Rattle.sets.specs.Members.{member_of}
 use Rattle.sets.proofs.Bitwise.{members_one_of}
 use Rattle.source.specs.Meaning.{pairs_to, pair_count}
@@ -20,22 +19,22 @@ use Rattle.dense.specs.Rows.{in_row, dense_means}
 pub row_known : (d : Dense) (i j : ℕ) → 1 ≤ i → i ≤ array_vec_len d.rows → in_row d i j ≡ true → one_of d.unknowns j ≡ true
 row_known d i j p q h =
     let l : j ≤ d.unknowns = d.fits (i - 1) j (omega arith) h in
-    let o = members_one_of (get_or d.rows.items (i - 1) no_unknown).bits j h in
+    let o = members_one_of (get_or d.rows.items (i - 1) 0) j h in
     grind (arith, nat_tests)
 
 -- what an equation holds is what its row holds
-pub row_says : (d : Dense) (i k : ℕ) (r : Option (Bor UnknownSet)) → IsItemAt d.rows.items k r → i ≡ k + 1
-    → MatchOption (option_copied r) ((j : ℕ) → (dense_means d).holds i j ≡ false) (λ row. (j : ℕ) → (dense_means d).holds i j ≡ member_of row.bits j)
+pub row_says : (d : Dense) (i k : ℕ) (r : Option (Bor ℕ)) → IsItemAt d.rows.items k r → i ≡ k + 1
+    → MatchOption (option_copied r) ((j : ℕ) → (dense_means d).holds i j ≡ false) (λ row. (j : ℕ) → (dense_means d).holds i j ≡ member_of row j)
 row_says d i k None h e = λ j. let l = h.3 in grind (arith, nat_tests)
 row_says d i k (Some x) h e =
     let l = h.3.0 in
     let s : i - 1 ≡ k = omega arith in
     λ j. sym (clip_kept _ _ i j (in_row d i j) (omega arith) (omega arith) (row_known d i j (omega arith) (omega arith)))
-    ∙ ap (λ (r : UnknownSet). member_of r.bits j) (ap (λ p. get_or d.rows.items p no_unknown) s ∙ sym (h.3.1 no_unknown))
+    ∙ ap (λ (r : ℕ). member_of r j) (ap (λ p. get_or d.rows.items p 0) s ∙ sym (h.3.1 0))
 
 -- how many unknowns a row holds
-abbrev pub row_len : UnknownSet → ℕ
-row_len r = how_many 128 (member_of r.bits)
+abbrev pub row_len : ℕ → ℕ
+row_len r = how_many 128 (member_of r)
 
 -- the pairs of the equations up to k are those of the first k rows
 rows_counted : (d : Dense) (k : ℕ) → k ≤ array_vec_len d.rows → pairs_to (dense_means d) k ≡ sum_by row_len (take k d.rows.items)
@@ -45,8 +44,8 @@ rows_counted d (suc k) h =
     let f : k + 1 - 1 ≡ k = omega arith in
     let r = rows_counted d k (omega arith) in
     let c = clip_counted (array_vec_len d.rows) d.unknowns k (in_row d) (omega arith) d.few.1 (λ j. row_known d (k + 1) j (omega arith) (omega arith)) in
-    let s = sum_by_more row_len d.rows.items k no_unknown (omega arith) in
-    let t = ap (λ i. row_len (get_or d.rows.items i no_unknown)) f in
+    let s = sum_by_more row_len d.rows.items k 0 (omega arith) in
+    let t = ap (λ i. row_len (get_or d.rows.items i 0)) f in
     rw e (c ∙ omega arith)
 
 -- the pairs are those of all rows
@@ -56,4 +55,4 @@ pairs_counted d =
 
 -- they are few
 pub pairs_few : (d : Dense) → sum_by row_len d.rows.items < 2 ^ 64
-pairs_few d = omega (arith, d.few.0, sum_by-le row_len 128 d.rows.items (λ k x h. how_many_le 128 (member_of (get_or d.rows.items k x).bits)))
+pairs_few d = omega (arith, d.few.0, sum_by-le row_len 128 d.rows.items (λ k x h. how_many_le 128 (member_of (get_or d.rows.items k x))))

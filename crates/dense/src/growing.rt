@@ -24,7 +24,7 @@ impl Dense {
 
     /// The row of an equation; none for a number that does not exist.
     fn row(&self, equation: usize) -> Option<UnknownSet>
-        ensures { MatchOption result ((j : ℕ) → (dense_means self.now).holds equation j ≡ false) (λ row. (j : ℕ) → (dense_means self.now).holds equation j ≡ member_of row.bits j) }
+        ensures { MatchOption result ((j : ℕ) → (dense_means self.now).holds equation j ≡ false) (λ row. (j : ℕ) → (dense_means self.now).holds equation j ≡ member_of row j) }
     {
         self.rows.get(equation.checked_sub(1)?).copied()
     }

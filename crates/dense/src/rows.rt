@@ -1,7 +1,6 @@
 //! How the dense source is kept.
-ghost use Rattle.std.specs.Prelude.{◌≡◌, ℕ, ◌<◌, ◌≤◌, true, slice_index_or};
+ghost use Rattle.std.specs.Prelude.{◌≡◌, ℕ, ◌<◌, ◌≤◌, true, slice_index};
 ghost use Rattle.sets.specs.Members.{member_of};
-ghost use Rattle.sets.specs.Empty.{no_unknown};
 ghost use Rattle.arrayvec.specs.ArrayVec.{array_vec_len};
 
 use arrayvec::ArrayVec;
@@ -14,5 +13,5 @@ pub struct Dense {
     pub(crate) rows: ArrayVec<UnknownSet, MOST_EQUATIONS>,
     pub(crate) unknowns: usize,
     ghost few: { (array_vec_len rows ≤ 112) × (unknowns ≤ 128) },
-    ghost fits: { (i j : ℕ) → i < array_vec_len rows → member_of (slice_index_or rows.items i no_unknown).bits j ≡ true → j ≤ unknowns },
+    ghost fits: { (i j : ℕ) → i < array_vec_len rows → member_of (slice_index rows.items i) j ≡ true → j ≤ unknowns },
 }

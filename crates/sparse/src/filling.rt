@@ -10,8 +10,8 @@ use sets::numbers::UnknownSet;
 
 /// Appends the numbers of a set, rising.
 pub(crate) fn fill<const N: usize>(cells: &mut ArrayVec<u8, N>, unknowns: UnknownSet)
-    requires { array_vec_len cells.old + how_many 128 (member_of unknowns.bits) ≤ N }
-    ensures { cells.new.items ≡ cells.old.items ++ numbers_to 128 (member_of unknowns.bits) }
+    requires { array_vec_len cells.old + how_many 128 (member_of unknowns) ≤ N }
+    ensures { cells.new.items ≡ cells.old.items ++ numbers_to 128 (member_of unknowns) }
 {
     for unknown in 1..129u8 {
         if unknowns.holds(unknown.into()) {

@@ -7,11 +7,11 @@ use Rattle.sparse.proofs.filling.fill.Goals.{then-holds, else-holds}
 
 pub loop-unknown-init : goal.loop-unknown-init
 loop-unknown-init g c =
-    sym (ap (λ xs. c.args.cells.now.items ++ xs) (numbers_none (member_of c.args.unknowns.bits)) ∙ append-nil c.args.cells.now.items)
+    sym (ap (λ xs. c.args.cells.now.items ++ xs) (numbers_none (member_of c.args.unknowns)) ∙ append-nil c.args.cells.now.items)
 
 pub push-requires : goal.push-requires
 push-requires g c =
-    let S = member_of c.args.unknowns.bits in
+    let S = member_of c.args.unknowns in
     let k = c.loop-unknown.unknown in
     let first = c.loop-unknown.auto.unknown in
     let s = numbers_short 128 k S first (omega arith) (ap S (sym c.into.ensures) ∙ sym c.if-holds.ensures) in
@@ -20,7 +20,7 @@ push-requires g c =
 
 pub loop-unknown-preserved : goal.loop-unknown-preserved
 loop-unknown-preserved g c =
-    let S = member_of c.args.unknowns.bits in
+    let S = member_of c.args.unknowns in
     let k = c.loop-unknown.unknown in
     let step = numbers_step k S c.loop-unknown.auto.unknown in
     elim c.if-holds.branch [

@@ -15,13 +15,13 @@ use Rattle.sparse.proofs.growing.SparseGrowing.add_equation.Goals as goal
 pub fill-requires : goal.fill-requires
 fill-requires c =
     let s = c.args.self.now in
-    let a = accepted _ (sparse_means s) c.args.unknowns.bits c.in_ok-admits_equation.ensures.rule in
+    let a = accepted _ (sparse_means s) c.args.unknowns c.in_ok-admits_equation.ensures.rule in
     omega (arith, a.spare, cells_counted s)
 
 pub invariant_of-self : goal.invariant_of-self
 invariant_of-self c =
     let s = c.args.self.now in
-    let bits = c.args.unknowns.bits in
+    let bits = c.args.unknowns in
     let S = member_of bits in
     let a = accepted _ (sparse_means s) bits c.in_ok-admits_equation.ensures.rule in
     let starts = s.starts.items in
@@ -43,7 +43,7 @@ invariant_of-self c =
 pub returns : goal.returns
 returns c =
     let s = c.args.self.now in
-    let bits = c.args.unknowns.bits in
+    let bits = c.args.unknowns in
     let S = member_of bits in
     let rule = c.in_ok-admits_equation.ensures.rule in
     let a = accepted _ (sparse_means s) bits rule in (

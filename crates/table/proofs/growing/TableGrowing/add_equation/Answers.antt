@@ -10,7 +10,7 @@ pub invariant_of-self-clause-fits : goal.invariant_of-self-clause-fits
 invariant_of-self-clause-fits c =
     let t = c.args.self.now in
     let row = c.flags.result in
-    let a = accepted _ (table_means t) c.args.unknowns.bits c.in_ok-admits_equation.ensures.rule in
+    let a = accepted _ (table_means t) c.args.unknowns c.in_ok-admits_equation.ensures.rule in
     rw c.push.ensures.items
     (λ i k h.
     rows_kept (λ (r : List Bool). (k : ℕ) → get_or r k false ≡ true → k < t.unknowns) t.rows.items row []
@@ -19,9 +19,9 @@ invariant_of-self-clause-fits c =
 pub returns : goal.returns
 returns c =
     let t = c.args.self.now in
-    let S = member_of c.args.unknowns.bits in
+    let S = member_of c.args.unknowns in
     let rule = c.in_ok-admits_equation.ensures.rule in
-    let a = accepted _ (table_means t) c.args.unknowns.bits rule in (
+    let a = accepted _ (table_means t) c.args.unknowns rule in (
       rule,
       rw c.push.ensures.items
           (clip_appended (λ (r : List Bool) (j : ℕ). get_or r (j - 1) false) t.rows.items c.flags.result [] t.unknowns S a.known
