@@ -9,7 +9,7 @@ use Rattle.grammar.specs.declared.marks.Kind.{Kind}
 use Rattle.grammar.specs.declared.marks.Kind.TheVariants.{Equation, Fault, Offer, Comment}
 use Rattle.grammar.specs.Marks.{mark, line_kind}
 use Rattle.grammar.specs.Reading.{Entry, line_words, line_reading}
-use Rattle.grammar.specs.Texts.{lines, lines_from, FirstLine}
+use Rattle.grammar.specs.Texts.{text_lines, lines_from, FirstLine}
 use Rattle.grammar.proofs.Order.{read_entry}
 use Rattle.line.specs.declared.records.Record.{Record}
 use Rattle.line.specs.Records.{entry_of, told}
@@ -63,7 +63,7 @@ pub record Sofar (text held : List ℕ) (from n : ℕ) (a : Account) : Type 0 wh
   pub short : length text ≤ 32768
   pub few : n ≤ from
   pub taken : List (List ℕ)
-  pub whole : lines text ≡ taken ++ lines_from text from
+  pub whole : text_lines text ≡ taken ++ lines_from text from
   pub many : length taken ≡ n
   pub read : AllByRecursion Reads taken
   pub counted : CountsLines (λ c. marked c taken) a
@@ -125,17 +125,17 @@ line_on text held from n a p after next more o b s first keeps on up reads noted
 
 -- ---- the answers
 
-fits : (text : List ℕ) → length text ≤ 32768 → account text ≡ account_or (first_refused 1 (lines text)) (lines text)
+fits : (text : List ℕ) → length text ≤ 32768 → account text ≡ account_or (first_refused 1 (text_lines text)) (text_lines text)
 fits text h = let e : leb (length text) 32768 ≡ true = grind (arith, leb_tells (length text) 32768) in rw e
 
 -- every line was read
 pub all_lines : (text held : List ℕ) (from n : ℕ) (a : Account) → Sofar text held from n a → lines_from held from ≡ [] → (Ok a ≡ account text) × CheckedText text (Ok a)
 all_lines text held from n a s none =
     let left : lines_from text from ≡ [] = subst (λ h. lines_from h from ≡ []) s.same none in
-    let all : lines text ≡ s.taken = s.whole ∙ ap (λ x. s.taken ++ x) left ∙ append-nil s.taken in
-    let read : AllByRecursion Reads (lines text) = subst (AllByRecursion Reads) (sym all) s.read in
-    let is : a ≡ counts (lines text) = counts_is s.taken a s.counted ∙ ap counts (sym all) in
-    (ap Ok is ∙ sym (fits text s.short ∙ ap (λ r. account_or r (lines text)) (all_read 1 (lines text) read)), (s.short, read, is))
+    let all : text_lines text ≡ s.taken = s.whole ∙ ap (λ x. s.taken ++ x) left ∙ append-nil s.taken in
+    let read : AllByRecursion Reads (text_lines text) = subst (AllByRecursion Reads) (sym all) s.read in
+    let is : a ≡ counts (text_lines text) = counts_is s.taken a s.counted ∙ ap counts (sym all) in
+    (ap Ok is ∙ sym (fits text s.short ∙ ap (λ r. account_or r (text_lines text)) (all_read 1 (text_lines text) read)), (s.short, read, is))
 
 -- a line was refused
 pub bad_line : (text held : List ℕ) (from n : ℕ) (a : Account) (p : ℕ × ℕ) (i : ℕ) (f : LineFault) (r : Refusal) →
@@ -144,10 +144,10 @@ bad_line text held from n a p i f r s first at reads is =
     let here : FirstLine text from p = subst (λ h. FirstLine h from p) s.same first in
     let l = between p.0 p.1 text in
     let rest : lines_from text from ≡ l ∷ lines_from text (p.1 + 1) = here.first ∙ rw here.starts in
-    let whole : lines text ≡ s.taken ++ l ∷ lines_from text (p.1 + 1) = s.whole ∙ ap (λ x. s.taken ++ x) rest in
+    let whole : text_lines text ≡ s.taken ++ l ∷ lines_from text (p.1 + 1) = s.whole ∙ ap (λ x. s.taken ++ x) rest in
     let bad = ap (first_refused 1) whole ∙ first_bad 1 s.taken l (lines_from text (p.1 + 1)) f s.read reads in
     let line : i + 1 ≡ 1 + length s.taken = omega (arith, s.many) in
     let line-back : i + 1 ≡ length s.taken + 1 = omega (arith, s.many) in (
-      ap Err (is ∙ ap (λ k. in_line k f) line) ∙ sym (fits text s.short ∙ ap (λ o. account_or o (lines text)) bad),
+      ap Err (is ∙ ap (λ k. in_line k f) line) ∙ sym (fits text s.short ∙ ap (λ o. account_or o (text_lines text)) bad),
       inr (s.short, record { before = s.taken; bad = l; after = lines_from text (p.1 + 1); fault = f; whole = whole; read = s.read; refused = reads; shown = is ∙ ap (λ k. in_line k f) line-back }),
     )

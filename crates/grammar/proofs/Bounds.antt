@@ -11,7 +11,7 @@ use Rattle.grammar.specs.Objections.{spaced}
 use Rattle.grammar.specs.Pieces.{cut_at}
 use Rattle.grammar.specs.Reading.{is_plain, odd_byte, unless, words_by, stands, entry, answer, line_reading}
 use Rattle.grammar.specs.Refusals.{checking_order, else_after, first_fault}
-use Rattle.grammar.specs.Words.{with_places, words_of, is_name, odd_name}
+use Rattle.grammar.specs.Words.{with_places, words_of, obeys_name_rule, odd_name}
 use Rattle.grammar.proofs.Cuts.{spaced-cut_at}
 
 -- a place that is at most n, if there is one
@@ -40,12 +40,12 @@ byte_within n k (b ∷ bs) h = by (is_plain b) (byte_within n (k + 1) bs (omega 
 -- the pieces and the spaces between them end before n
 name_within : (n k : ℕ) (ps : List (List ℕ)) → k + length (spaced ps) ≤ n → Within n (odd_name (with_places k ps))
 name_within n k [] h = tt
-name_within n k (p ∷ []) h = by (is_name p)
+name_within n k (p ∷ []) h = by (obeys_name_rule p)
   where
     by : (v : Bool) → Within n (cond v None (Some k))
     by true = tt
     by false = omega arith
-name_within n k (p ∷ (q ∷ ps)) h = by (is_name p) (name_within n (k + length p + 1) (q ∷ ps) (omega (arith, length-append p (32 ∷ spaced (q ∷ ps)))))
+name_within n k (p ∷ (q ∷ ps)) h = by (obeys_name_rule p) (name_within n (k + length p + 1) (q ∷ ps) (omega (arith, length-append p (32 ∷ spaced (q ∷ ps)))))
   where
     by : (v : Bool) → Within n (odd_name (with_places (k + length p + 1) (q ∷ ps))) → Within n (cond v (odd_name (with_places (k + length p + 1) (q ∷ ps))) (Some k))
     by true r = r

@@ -11,7 +11,7 @@ use Rattle.grammar.specs.Marks.{line_kind}
 use Rattle.grammar.specs.Objections.{Name, Marked, HasWords, Applies, Enters, ByGrounds}
 use Rattle.grammar.specs.Reading.{Entry, stands, line_words, entry, answer, line_reading}
 use Rattle.grammar.specs.Refusals.{checking_order, else_after, first_fault, FirstInOrder}
-use Rattle.grammar.specs.Words.{Word, words_of, is_name, odd_name}
+use Rattle.grammar.specs.Words.{Word, words_of, obeys_name_rule, odd_name}
 use Rattle.grammar.proofs.Standing.{Leftmost, each_ground, name_decides, kind_from_mark, mark_from_kind, unmarked}
 
 -- ---- any order, any grounds
@@ -58,9 +58,9 @@ free_of o P e h = subst (λ x. Leftmost x P) e h
 
 all_names : (ws : List Word) → odd_name ws ≡ None → AllByRecursion (λ w. Name w.bytes) ws
 all_names [] e = tt
-all_names (w ∷ ws) e = by (all_names ws) (is_name w.bytes) refl
+all_names (w ∷ ws) e = by (all_names ws) (obeys_name_rule w.bytes) refl
   where
-    by : (odd_name ws ≡ None → AllByRecursion (λ v. Name v.bytes) ws) → (b : Bool) → is_name w.bytes ≡ b → AllByRecursion (λ v. Name v.bytes) (w ∷ ws)
+    by : (odd_name ws ≡ None → AllByRecursion (λ v. Name v.bytes) ws) → (b : Bool) → obeys_name_rule w.bytes ≡ b → AllByRecursion (λ v. Name v.bytes) (w ∷ ws)
     by rest true t = ((name_decides w.bytes).0 t, rest (sym (rw t) ∙ e))
     by rest false t = absurd (let z : Some w.start ≡ None = sym (rw t) ∙ e in let y : ◌≡◌ {A = ℕ} 0 1 = cc in omega arith)
 

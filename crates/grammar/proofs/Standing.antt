@@ -1,6 +1,6 @@
 -- Each ground by the computing definition and in words: they agree. Assumes nothing.
 use Rattle.std.proofs.Common.{◌≡◌, ℕ, zero, suc, ◌+◌, ◌<◌, ◌≤◌, Bool, true, false, cond, ◌&&◌, ◌||◌, eqb, ltb, leb, ◌⊎◌, List, [], ◌∷◌, length, get_or, drop, is_some, Some, None, Decides, Option, sym, refl, ap, ◌∙◌, subst, inl, inr, ⊎_elim, arith, MatchOption}
-use Rattle.std.specs.List.{AllByRecursion}
+use Rattle.std.specs.List.{AllByRecursion, list_all}
 use Rattle.std.proofs.lemmas.Bool.Decides.{nat_tests, eqb_tells, leb_tells, Decides-eqb, Decides-and, Decides-or, Decides-like}
 use Rattle.std.proofs.ByRecursion.{Decides-by_and}
 use Rattle.grammar.specs.declared.grounds.Ground.{Ground}
@@ -11,7 +11,7 @@ use Rattle.grammar.specs.Marks.{mark, kind_of, line_kind}
 use Rattle.grammar.specs.Objections.{Letter, NameByte, Name, Marked, HasWords, OneOfWords, Unmarked, Miscounted, OddName, Applies}
 use Rattle.grammar.specs.Pieces.{cut_at}
 use Rattle.grammar.specs.Reading.{is_plain, odd_byte, unless, stands, takes, takes_by, words_with, line_words}
-use Rattle.grammar.specs.Words.{Word, with_places, words_of, is_letter, is_name_byte, all_name_bytes, is_name, odd_name}
+use Rattle.grammar.specs.Words.{Word, with_places, words_of, is_letter, is_name_byte, obeys_name_rule, odd_name}
 
 -- o is the leftmost number of which P holds, if there is one
 abbrev pub Leftmost : Option ℕ → (ℕ → Type 0) → Type 0
@@ -63,22 +63,22 @@ byte_decides b =
     leb_decides : (a b : ℕ) → Decides (leb a b) (a ≤ b)
     leb_decides a b = (λ e. grind (arith, nat_tests, leb_tells a b), λ l. grind (arith, nat_tests, leb_tells a b))
 
-bytes_decide : (bs : List ℕ) → Decides (all_name_bytes bs) (AllByRecursion NameByte bs)
-bytes_decide bs = Decides-by_and is_name_byte NameByte all_name_bytes byte_decides refl (λ _ _. refl) bs
+bytes_decide : (bs : List ℕ) → Decides (list_all is_name_byte bs) (AllByRecursion NameByte bs)
+bytes_decide bs = Decides-by_and is_name_byte NameByte (list_all is_name_byte) byte_decides refl (λ _ _. refl) bs
 
 short_decides : (n : ℕ) → Decides (leb n 7) (n ≤ 7)
 short_decides n = (λ e. grind (arith, nat_tests, leb_tells n 7), λ l. grind (arith, nat_tests, leb_tells n 7))
 
-pub name_decides : (w : List ℕ) → Decides (is_name w) (Name w)
+pub name_decides : (w : List ℕ) → Decides (obeys_name_rule w) (Name w)
 name_decides [] = (λ e. absurd (let z : ◌≡◌ {A = ℕ} 0 1 = cc in omega arith), λ n. absurd (omega (arith, ap length n.whole)))
 name_decides (b ∷ bs) =
-    Decides-like (is_name (b ∷ bs))
+    Decides-like (obeys_name_rule (b ∷ bs))
     (λ p. record { first = b; rest = bs; whole = refl; letter = p.0; short = p.1.0; others = p.1.1 })
     (λ n.
     let f : n.first ≡ b = cc in
     let r : n.rest ≡ bs = cc in
     (subst Letter f n.letter, (subst (λ l. length l ≤ 7) r n.short, subst (AllByRecursion NameByte) r n.others)))
-    (Decides-and (is_letter b) (leb (length bs) 7 && all_name_bytes bs) (letter_decides b) (Decides-and (leb (length bs) 7) (all_name_bytes bs) (short_decides (length bs)) (bytes_decide bs)))
+    (Decides-and (is_letter b) (leb (length bs) 7 && list_all is_name_byte bs) (letter_decides b) (Decides-and (leb (length bs) 7) (list_all is_name_byte bs) (short_decides (length bs)) (bytes_decide bs)))
 
 -- ---- marks
 
@@ -175,7 +175,7 @@ words_rising line =
 
 odd_names : (n : ℕ) (ws : List Word) → Rising n ws → Leftmost (odd_name ws) (OddName ws)
 odd_names n [] r = λ k p. omega (arith, p.1.1)
-odd_names n (w ∷ ws) r = by (odd_names w.start ws r.1) (is_name w.bytes) refl
+odd_names n (w ∷ ws) r = by (odd_names w.start ws r.1) (obeys_name_rule w.bytes) refl
   where
     more : (k : ℕ) → OddName ws k → OddName (w ∷ ws) k
     more k (v, a, s, o) = (v, (suc a.0, omega (arith, a.1), a.2), s, o)
@@ -184,7 +184,7 @@ odd_names n (w ∷ ws) r = by (odd_names w.start ws r.1) (is_name w.bytes) refl
     less named k (v, (zero, l, e), s, o) = absurd (o (subst (λ x. Name x.bytes) e named))
     less named k (v, (suc i, l, e), s, o) = (v, (i, omega arith, e), s, o)
 
-    by : Leftmost (odd_name ws) (OddName ws) → (b : Bool) → is_name w.bytes ≡ b → Leftmost (odd_name (w ∷ ws)) (OddName (w ∷ ws))
+    by : Leftmost (odd_name ws) (OddName ws) → (b : Bool) → obeys_name_rule w.bytes ≡ b → Leftmost (odd_name (w ∷ ws)) (OddName (w ∷ ws))
     by rest true e = rw e (leftmost_like (odd_name ws) (OddName ws) (OddName (w ∷ ws)) more (less ((name_decides w.bytes).0 e)) rest)
     by rest false e =
         rw e (

@@ -1,10 +1,6 @@
 -- Bytes cut at every separator. Assumes nothing.
 use Rattle.std.specs.Prelude.{ℕ, cond, List, [], ◌∷◌, ◌==◌}
-
--- one byte more in front of the first piece
-abbrev pub onto_first : ℕ → List (List ℕ) → List (List ℕ)
-onto_first b [] = (b ∷ []) ∷ []
-onto_first b (p ∷ ps) = (b ∷ p) ∷ ps
+use Rattle.std.specs.List.{onto_first}
 
 -- The pieces between separators. `last` says what follows the last separator where the bytes end there:
 -- one empty piece, or none.

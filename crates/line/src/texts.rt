@@ -2,7 +2,7 @@
 ghost use Rattle.std.specs.Prelude.{◌≡◌, ◌-◌, ◌<◌, ◌≤◌, [], length, MatchOption, MatchResult};
 ghost use Rattle.grammar.specs.declared.grounds.Ground.TheVariants.{TextTooLong};
 ghost use Rattle.grammar.specs.Refusals.{fault};
-ghost use Rattle.grammar.specs.Texts.{lines, lines_from, CutIntoLines, FirstLine, LineStep};
+ghost use Rattle.grammar.specs.Texts.{text_lines, lines_from, CutIntoLines, FirstLine, LineStep};
 ghost use Rattle.std.specs.Iterator.{at_most};
 
 use crate::words::until;
@@ -43,7 +43,7 @@ impl<'a> Lines<'a> {
     /// All lines of a text.
     pub fn of(text: &'a [u8]) -> Lines<'a>
         ensures left { (result.text.now ≡ text.now) × (result.from ≡ 0) }
-        ensures splits { CutIntoLines text.now (lines text.now) }
+        ensures splits { CutIntoLines text.now (text_lines text.now) }
     {
         Lines { text, from: 0 }
     }

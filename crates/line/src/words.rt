@@ -2,7 +2,7 @@
 ghost use Rattle.std.specs.Prelude.{◌≡◌, ℕ, ◌+◌, ◌-◌, ◌<◌, ◌≤◌, length, MatchOption, ◌≢◌, slice_index};
 ghost use Rattle.std.specs.Iterator.{at_most};
 ghost use Rattle.line.specs.Taking.{FirstWord, NextWord, WordStep};
-ghost use Rattle.grammar.specs.Words.{is_letter, is_name_byte, all_name_bytes, is_name, word, words_from, words_of};
+ghost use Rattle.grammar.specs.Words.{is_letter, is_name_byte, obeys_name_rule, word, words_from, words_of};
 
 use grammar::grounds::{Ground, LineFault};
 
@@ -33,7 +33,7 @@ pub(crate) fn until(bytes: &[u8], separator: u8) -> usize
 }
 
 fn all_name_bytes(bytes: &[u8]) -> bool
-    ensures { result ≡ all_name_bytes bytes.now }
+    ensures { result ≡ list_all is_name_byte bytes.now }
 {
     for b in bytes {
         if !is_name_byte(*b) {
@@ -45,7 +45,7 @@ fn all_name_bytes(bytes: &[u8]) -> bool
 
 /// Whether a word obeys the rule for names.
 fn is_name(word: &[u8]) -> bool
-    ensures { result ≡ is_name word.now }
+    ensures { result ≡ obeys_name_rule word.now }
 {
     let [first, rest @ ..] = word else {
         return false;
