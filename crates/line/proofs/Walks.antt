@@ -4,17 +4,18 @@ use Rattle.std.specs.List.{between}
 use Rattle.std.proofs.lemmas.List.{map-append}
 use Rattle.std.proofs.lemmas.Bool.Decides.{nat_tests, leb_tells}
 use Rattle.line.specs.declared.places.Places.{Places}
+use Rattle.line.specs.declared.words.Words.{Words}
 use Rattle.line.specs.Records.{word_in, words_in}
 use Rattle.line.specs.Taking.{NamedWord}
 use Rattle.grammar.specs.Words.{word, words_from, words_of, odd_name}
 
 -- so many words have been taken, all of them names, and the next begins at `from`
-pub record Walked (line held : List ℕ) (from count : ℕ) (places : Places) : Type 0 where
-  pub same : held ≡ line
-  pub far : 2 + 2 * count ≤ from
+pub record Walked (line : List ℕ) (left : Words) (count : ℕ) (places : Places) : Type 0 where
+  pub same : left.line.now ≡ line
+  pub far : 2 + 2 * count ≤ left.from
   pub counted : places.len ≡ count
-  pub words : words_in line places ++ words_from line from ≡ words_of line
-  pub named : odd_name (words_from line from) ≡ odd_name (words_of line)
+  pub words : words_in line places ++ words_from line left.from ≡ words_of line
+  pub named : odd_name (words_from line left.from) ≡ odd_name (words_of line)
 
 -- a name has a byte
 pub name_long : (line : List ℕ) (from : ℕ) (p : ℕ × ℕ) → NamedWord line from p → from < p.1
@@ -24,11 +25,11 @@ name_long line from p w =
     (let way : (from < p.1) ⊎ (p.1 ≤ from) = grind (arith, nat_tests, leb_tells p.1 from) in way)
 
 -- one word more is taken
-pub walk_on : (line held : List ℕ) (from count : ℕ) (places : Places) (p : ℕ × ℕ) (after : List ℕ) (next more : ℕ) (grown : Places) →
-    Walked line held from count places → after ≡ held → NamedWord held from p → next ≡ p.1 + 1 → more ≡ count + 1 → grown.len ≡ more →
-    take grown.len grown.all ≡ take count places.all ++ record { start = p.0; end = p.1 } ∷ [] →
-    Walked line after next more grown
-walk_on line held from count places p after next more grown w keeps named on up len taken =
+pub walk_on : (line : List ℕ) (left after : Words) (count more : ℕ) (places grown : Places) (p : ℕ × ℕ) →
+    Walked line left count places → after.line.now ≡ left.line.now → NamedWord left.line.now left.from p → after.from ≡ p.1 + 1 → more ≡ count + 1 → grown.len ≡ more →
+    take grown.len grown.all ≡ take count places.all ++ record { start = p.0; end = p.1 } ∷ [] → Walked line after more grown
+walk_on line left after count more places grown p w keeps named on up len taken =
+    let from = left.from in
     let here : NamedWord line from p = subst (λ l. NamedWord l from p) w.same named in
     let long = name_long line from p here in
     let first = here.stands.first in

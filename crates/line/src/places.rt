@@ -1,5 +1,6 @@
 //! Where the words of a line stand.
 ghost use Rattle.std.specs.Prelude.{◌≡◌, ◌+◌, ◌<◌, ◌≤◌, [], ◌∷◌, ◌++◌, length, take};
+ghost use Rattle.line.specs.declared.places.TheConstants.{MOST};
 
 /// One word's place: the indices of its first byte and of the byte after its last.
 #[derive(Clone, Copy)]
@@ -14,9 +15,10 @@ const MOST: usize = 119;
 /// The places of a line's words, from left to right.
 #[derive(Clone, Copy)]
 pub struct Places {
-    pub(crate) all: [Place; 119],
+    // Kept: reading a line takes no heap and a record is `Copy`, and no vector of the toolchain is, `ArrayVec` among them.
+    pub(crate) all: [Place; MOST],
     pub(crate) len: usize,
-    ghost within: { (len ≤ 119) × (length all ≡ 119) },
+    ghost within: { (len ≤ MOST) × (length all ≡ MOST) },
 }
 
 impl Places {
@@ -31,7 +33,7 @@ impl Places {
 
     /// Notes where word number `index`, from 0, stands. Later words are forgotten.
     pub(crate) fn put(&mut self, index: usize, start: usize, end: usize)
-        requires { index < 119 }
+        requires { index < MOST }
         ensures places { take self.new.len self.new.all ≡ take index self.old.all ++ record { start = start; end = end } ∷ [] }
         ensures len { self.new.len ≡ index + 1 }
     {
