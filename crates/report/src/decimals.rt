@@ -17,15 +17,15 @@ impl Decimal {
         ensures reads { WritesNumber n (drop result.start result.places) }
     {
         let mut places = [b'0'; 10];
-        let mut start = 9;
-        places[9] = b'0' + (n % 10) as u8;
-        let mut rest = n / 10;
-        while rest > 0 {
-            start -= 1;
+        let mut rest = n;
+        for start in (0..10).rev() {
             places[start] = b'0' + (rest % 10) as u8;
             rest /= 10;
+            if rest == 0 {
+                return Decimal { places, start };
+            }
         }
-        Decimal { places, start }
+        unreachable!()
     }
 
     /// The digits as bytes.

@@ -8,7 +8,7 @@ use Rattle.report.proofs.refusals.x_line.Goals.{After-as_slice-byte}
 numbers : (c : After-as_slice-byte) → parted c.as_slice-number.result.now c.as_slice-line.result.now c.as_slice-byte.result.now ≡ x_line c.args.refusal
 numbers c =
     x_line_parts c.args.refusal _ _ _
-    (c.as_slice-number.ensures.value ∙ c.of-number.ensures.value ∙ ap decimal c.number.ensures)
+    (c.as_slice-number.ensures.value ∙ c.of-number.ensures.value ∙ ap decimal c.from.ensures)
     (c.as_slice-line.ensures.value ∙ c.of-line.ensures.value)
     (c.as_slice-byte.ensures.value ∙ c.of-byte.ensures.value)
 
