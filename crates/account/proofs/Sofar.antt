@@ -3,6 +3,7 @@ use Rattle.std.proofs.Common.{◌≡◌, ℕ, suc, ◌+◌, ◌<◌, ◌≤◌, 
 use Rattle.std.specs.List.{between, AllByRecursion}
 use Rattle.std.specs.Option.{option_map}
 use Rattle.std.proofs.lemmas.Bool.Decides.{leb_tells}
+use Rattle.std.proofs.lemmas.List.Sums.{sum_by_push, count_by-le-length}
 use Rattle.grammar.specs.declared.grounds.LineFault.{LineFault}
 use Rattle.grammar.specs.declared.grounds.Refusal.{Refusal}
 use Rattle.grammar.specs.declared.marks.Kind.{Kind}
@@ -23,18 +24,6 @@ abbrev Reads : List ℕ → Type 0
 Reads l = is_ok (line_reading l) ≡ true
 
 -- ---- counting
-
-marked_one : (c : ℕ) (ls : List (List ℕ)) (l : List ℕ) → marked c (ls ++ l ∷ []) ≡ marked c ls + cond (eqb (mark_by (line_kind l)) c) 1 0
-marked_one c [] l = omega arith
-marked_one c (k ∷ ls) l = let r = marked_one c ls l in omega arith
-
-marked_few : (c : ℕ) (ls : List (List ℕ)) → marked c ls ≤ length ls
-marked_few c [] = omega arith
-marked_few c (l ∷ ls) = let r = marked_few c ls in by (eqb (mark_by (line_kind l)) c) r
-  where
-    by : (b : Bool) → marked c ls ≤ length ls → cond b 1 0 + marked c ls ≤ suc (length ls)
-    by true r = omega arith
-    by false r = omega arith
 
 counts_is : (ls : List (List ℕ)) (a : Account) → CountsLines (λ c. marked c ls) a → a ≡ counts ls
 counts_is ls a h = λ i. record { equations = h.equations i; faults = h.faults i; offers = h.offers i; comments = h.comments i; empty = h.empty i }
@@ -81,7 +70,7 @@ room text left n a s inside = record {
 }
   where
     below : {m : ℕ} (c : ℕ) → m ≡ marked c s.taken → m < 32768
-    below c e = omega (arith, e, marked_few c s.taken, s.many, s.few, s.short)
+    below c e = omega (arith, e, count_by-le-length (λ k. eqb (mark_by (line_kind k)) c) s.taken, s.many, s.few, s.short)
 
 kinds_back : (f : Kind → Entry) → ((kind : Kind) → (f kind).kind ≡ kind) → (m : Option Kind) → option_map (λ x. x.kind) (option_map f m) ≡ m
 kinds_back f h None = refl
@@ -109,7 +98,7 @@ line_on text left after n more a b p o s first keeps on up reads noted =
     let l = between p.0 p.1 text in
     let rest : lines_from text left.from ≡ l ∷ lines_from text after.from = here.first ∙ rw (on, here.starts) in
     let grown : (c : ℕ) → marked c s.taken + cond (eqb (mark_by (kind_by o)) c) 1 0 ≡ marked c (s.taken ++ l ∷ []) =
-    λ c. ap (λ m. marked c s.taken + cond (eqb (mark_by m) c) 1 0) (kind_read l o reads) ∙ sym (marked_one c s.taken l) in
+    λ c. ap (λ m. marked c s.taken + cond (eqb (mark_by m) c) 1 0) (kind_read l o reads) ∙ sym (sum_by_push (λ k. cond (eqb (mark_by (line_kind k)) c) 1 0) s.taken l) in
     record {
       same = keeps ∙ s.same;
       short = s.short;

@@ -1,6 +1,6 @@
 -- What checking a text line by line answers. Assumes nothing.
 use Rattle.std.specs.Prelude.{◌≡◌, ℕ, ◌+◌, ◌<◌, ◌≤◌, true, cond, ◌⊎◌, List, [], ◌∷◌, ◌++◌, length, is_ok, Some, None, Ok, Err, Option, Result, MatchResult, ◌==◌, nat_le}
-use Rattle.std.specs.List.{AllByRecursion}
+use Rattle.std.specs.List.{AllByRecursion, count_by}
 use Rattle.grammar.specs.declared.grounds.Ground.TheVariants.{TextTooLong}
 use Rattle.grammar.specs.declared.grounds.LineFault.{LineFault}
 use Rattle.grammar.specs.declared.grounds.Refusal.{Refusal}
@@ -18,8 +18,7 @@ mark_by (Some kind) = mark kind
 
 -- how many lines have the mark
 abbrev pub marked : ℕ → List (List ℕ) → ℕ
-marked c [] = 0
-marked c (l ∷ ls) = cond (mark_by (line_kind l) == c) 1 0 + marked c ls
+marked c ls = count_by (λ l. mark_by (line_kind l) == c) ls
 
 abbrev pub counts : List (List ℕ) → Account
 counts ls = record {

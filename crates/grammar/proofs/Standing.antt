@@ -52,6 +52,9 @@ odd_bytes n (b ∷ bs) =
 
 -- ---- names
 
+leb_decides : (a b : ℕ) → Decides (leb a b) (a ≤ b)
+leb_decides a b = (λ e. grind (arith, nat_tests, leb_tells a b), λ l. grind (arith, nat_tests, leb_tells a b))
+
 letter_decides : (b : ℕ) → Decides (is_letter b) (Letter b)
 letter_decides b = (λ e. grind (arith, nat_tests, leb_tells 97 b, leb_tells b 122, leb_tells 65 b, leb_tells b 90), λ l. grind (arith, nat_tests, leb_tells 97 b, leb_tells b 122, leb_tells 65 b, leb_tells b 90))
 
@@ -59,15 +62,8 @@ byte_decides : (b : ℕ) → Decides (is_name_byte b) (NameByte b)
 byte_decides b =
     Decides-or (is_letter b) ((leb 48 b && leb b 57) || eqb b 95) (letter_decides b)
     (Decides-or (leb 48 b && leb b 57) (eqb b 95) (Decides-and (leb 48 b) (leb b 57) (leb_decides 48 b) (leb_decides b 57)) (Decides-eqb b 95))
-  where
-    leb_decides : (a b : ℕ) → Decides (leb a b) (a ≤ b)
-    leb_decides a b = (λ e. grind (arith, nat_tests, leb_tells a b), λ l. grind (arith, nat_tests, leb_tells a b))
-
 bytes_decide : (bs : List ℕ) → Decides (list_all is_name_byte bs) (AllByRecursion NameByte bs)
 bytes_decide bs = Decides-by_and is_name_byte NameByte (list_all is_name_byte) byte_decides refl (λ _ _. refl) bs
-
-short_decides : (n : ℕ) → Decides (leb n 7) (n ≤ 7)
-short_decides n = (λ e. grind (arith, nat_tests, leb_tells n 7), λ l. grind (arith, nat_tests, leb_tells n 7))
 
 pub name_decides : (w : List ℕ) → Decides (obeys_name_rule w) (Name w)
 name_decides [] = (λ e. absurd (let z : ◌≡◌ {A = ℕ} 0 1 = cc in omega arith), λ n. absurd (omega (arith, ap length n.whole)))
@@ -78,7 +74,7 @@ name_decides (b ∷ bs) =
     let f : n.first ≡ b = cc in
     let r : n.rest ≡ bs = cc in
     (subst Letter f n.letter, (subst (λ l. length l ≤ 7) r n.short, subst (AllByRecursion NameByte) r n.others)))
-    (Decides-and (is_letter b) (leb (length bs) 7 && list_all is_name_byte bs) (letter_decides b) (Decides-and (leb (length bs) 7) (list_all is_name_byte bs) (short_decides (length bs)) (bytes_decide bs)))
+    (Decides-and (is_letter b) (leb (length bs) 7 && list_all is_name_byte bs) (letter_decides b) (Decides-and (leb (length bs) 7) (list_all is_name_byte bs) (leb_decides (length bs) 7) (bytes_decide bs)))
 
 -- ---- marks
 
