@@ -4,12 +4,6 @@ use Rattle.std.proofs.lemmas.Result.{err_from_is_err_and}
 use Rattle.account.proofs.Sofar.{room, line_on, all_lines, bad_line}
 use Rattle.account.proofs.checking.check_text.Goals as goal
 
-pub note-requires : goal.note-requires
-note-requires c =
-    let s = c.in-Some.ensures.steps in
-    let w = c.loop-index.invariant.1 in
-    room c.args.text.now (enumerate_source c.loop-index.index-iterator) (enumerate_count c.loop-index.index-iterator) c.loop-index.account w (omega (arith, s.0.1.0.inside, ap length w.same))
-
 pub loop-index-preserved : goal.loop-index-preserved
 loop-index-preserved c =
     let s = c.in-Some.ensures.steps in (

@@ -4,9 +4,6 @@ use Rattle.grammar.specs.Texts.{text_lines}
 use Rattle.grammar.proofs.Splits.{front_from, lines_next}
 use Rattle.line.proofs.texts.line_at.Goals as goal
 
-pub returns-then-from-text : goal.returns-then-from-text
-returns-then-from-text c = ap text_lines (drop_all c.args.from c.args.text.now (omega arith))
-
 pub returns : goal.returns
 returns c =
     let text = c.args.text.now in

@@ -12,13 +12,6 @@ numbers c =
     (c.as_slice-line.ensures.value ∙ c.of-line.ensures.value)
     (c.as_slice-byte.ensures.value ∙ c.of-byte.ensures.value)
 
-pub returns-then-area-number : goal.returns-then-area-number
-returns-then-area-number c =
-    let e = numbers (goal.at.returns-then-area-number c).After-as_slice-byte in
-    let long = parted_length c.as_slice-number.result.now c.as_slice-line.result.now c.as_slice-byte.result.now in
-    let short : length c.args.area.now < length (parted c.as_slice-number.result.now c.as_slice-line.result.now c.as_slice-byte.result.now) = omega (arith, long, c.if-area-number.true) in
-    (refl, subst (λ l. length c.args.area.now < length l) e short, refl)
-
 pub returns : goal.returns
 returns c =
     let e = numbers (goal.at.returns c).After-as_slice-byte in

@@ -2,13 +2,6 @@ use Rattle.std.proofs.Common.{◌+◌, ◌-◌, ◌^◌, ◌<◌, ◌≤◌, ◌
 use Rattle.report.proofs.Digits.{last_digit, next_digit, places_left, writes_number}
 use Rattle.report.proofs.decimals.Decimal.of.Goals as goal
 
-pub loop-start-init : goal.loop-start-init
-loop-start-init c = record { long = refl; small = omega arith; whole = append-nil (decimal c.args.n) }
-
-pub invariant_of-result : goal.invariant_of-result
-invariant_of-result c =
-    record { within = (omega (arith, c.loop-start.auto.start), omega (arith, c.loop-start.invariant.long, length-set c.loop-start.places (c.loop-start.start - 1) (48 + c.loop-start.rest % 10))) }
-
 pub returns-then-rest-eq0 : goal.returns-then-rest-eq0
 returns-then-rest-eq0 c =
     let v = last_digit c.args.n c.loop-start.rest c.loop-start.start c.loop-start.places c.loop-start.invariant c.loop-start-test.true c.loop-start.auto.start c.if-rest-eq0.true in
