@@ -1,14 +1,13 @@
 -- A text checked up to some line. Assumes nothing.
-use Rattle.std.proofs.Common.{◌≡◌, ℕ, suc, ◌+◌, ◌<◌, ◌≤◌, Bool, true, false, cond, eqb, leb, List, [], ◌∷◌, ◌++◌, length, is_ok, Some, None, Ok, Err, Option, Result, sym, refl, ap, ◌∙◌, subst, inr, append_assoc, append-nil, arith, length-append}
+use Rattle.std.proofs.Common.{◌≡◌, ℕ, ◌+◌, ◌≤◌, true, cond, eqb, leb, List, [], ◌∷◌, ◌++◌, length, is_ok, Some, None, Ok, Err, Option, Result, sym, refl, ap, ◌∙◌, subst, inr, append_assoc, append-nil, arith, length-append}
 use Rattle.std.specs.List.{between, AllByRecursion}
 use Rattle.std.specs.Option.{option_map}
 use Rattle.std.proofs.lemmas.Bool.Decides.{leb_tells}
-use Rattle.std.proofs.lemmas.List.Sums.{sum_by_push, count_by-le-length}
+use Rattle.std.proofs.lemmas.List.Sums.{sum_by_push}
 use Rattle.grammar.specs.declared.grounds.LineFault.{LineFault}
 use Rattle.grammar.specs.declared.grounds.Refusal.{Refusal}
 use Rattle.grammar.specs.declared.marks.Kind.{Kind}
-use Rattle.grammar.specs.declared.marks.Kind.TheVariants.{Equation, Fault, Offer, Comment}
-use Rattle.grammar.specs.Marks.{mark, line_kind}
+use Rattle.grammar.specs.Marks.{line_kind}
 use Rattle.grammar.specs.Reading.{Entry, line_words, line_reading}
 use Rattle.grammar.specs.Texts.{text_lines, lines_from, FirstLine}
 use Rattle.grammar.proofs.Order.{read_entry}
@@ -18,7 +17,7 @@ use Rattle.std.proofs.ByRecursion.{All-push}
 use Rattle.line.specs.Records.{entry_of, told}
 use Rattle.account.specs.declared.accounts.Account.{Account}
 use Rattle.account.specs.Checking.{mark_by, marked, counts, in_line, or_refused, first_refused, account_or, account, CheckedText}
-use Rattle.account.specs.Noting.{kind_by, CountsLines, FewerThan, Noted}
+use Rattle.account.specs.Noting.{kind_by, CountsLines, Noted}
 
 abbrev Reads : List ℕ → Type 0
 Reads l = is_ok (line_reading l) ≡ true
@@ -58,19 +57,6 @@ pub record Sofar (text : List ℕ) (left : Lines) (n : ℕ) (a : Account) : Type
   pub many : length taken ≡ n
   pub read : AllByRecursion Reads taken
   pub counted : CountsLines (λ c. marked c taken) a
-
--- an account of the lines so far has room for one more
-pub room : (text : List ℕ) (left : Lines) (n : ℕ) (a : Account) → Sofar text left n a → left.from < length text → FewerThan 32768 a
-room text left n a s inside = record {
-  equations = below (mark Equation) s.counted.equations;
-  faults = below (mark Fault) s.counted.faults;
-  offers = below (mark Offer) s.counted.offers;
-  comments = below (mark Comment) s.counted.comments;
-  empty = below 0 s.counted.empty;
-}
-  where
-    below : {m : ℕ} (c : ℕ) → m ≡ marked c s.taken → m < 32768
-    below c e = omega (arith, e, count_by-le-length (λ k. eqb (mark_by (line_kind k)) c) s.taken, s.many, s.few, s.short)
 
 kinds_back : (f : Kind → Entry) → ((kind : Kind) → (f kind).kind ≡ kind) → (m : Option Kind) → option_map (λ x. x.kind) (option_map f m) ≡ m
 kinds_back f h None = refl

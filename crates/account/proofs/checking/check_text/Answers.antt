@@ -1,7 +1,6 @@
-use Rattle.std.proofs.Common.{length, ap, arith}
 use Rattle.std.specs.Iterator.Adapters.{enumerate_source, enumerate_count}
 use Rattle.std.proofs.lemmas.Result.{err_from_is_err_and}
-use Rattle.account.proofs.Sofar.{room, line_on, all_lines, bad_line}
+use Rattle.account.proofs.Sofar.{line_on, all_lines, bad_line}
 use Rattle.account.proofs.checking.check_text.Goals as goal
 
 pub loop-index-preserved : goal.loop-index-preserved

@@ -1,6 +1,4 @@
-use Rattle.std.proofs.Common.{refl, ap, arith, length-drop}
-use Rattle.std.proofs.lemmas.List.{drop_all}
-use Rattle.grammar.specs.Texts.{text_lines}
+use Rattle.std.proofs.Common.{refl, arith, length-drop}
 use Rattle.grammar.proofs.Splits.{front_from, lines_next}
 use Rattle.line.proofs.texts.line_at.Goals as goal
 

@@ -1,4 +1,4 @@
-use Rattle.std.proofs.Common.{◌≡◌, ◌<◌, ◌≤◌, [], ◌∷◌, ◌++◌, length, drop, decimal, refl, ap, ◌∙◌, subst, append_assoc, arith}
+use Rattle.std.proofs.Common.{◌≡◌, ◌≤◌, [], ◌∷◌, ◌++◌, length, drop, decimal, ap, ◌∙◌, subst, append_assoc, arith}
 use Rattle.report.specs.Lines.{x_line}
 use Rattle.report.proofs.Pieces.{nothing_yet, piece_on, parted, x_line_parts, parted_length, line_stands}
 use Rattle.report.proofs.refusals.x_line.Goals as goal

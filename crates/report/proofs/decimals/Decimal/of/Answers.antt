@@ -1,4 +1,4 @@
-use Rattle.std.proofs.Common.{◌+◌, ◌-◌, ◌^◌, ◌<◌, ◌≤◌, ◌/◌, ◌%◌, ◌≡◌, drop, decimal, replicate, set, refl, arith, append-nil, length-set}
+use Rattle.std.proofs.Common.{◌≡◌, arith}
 use Rattle.report.proofs.Digits.{last_digit, next_digit, places_left, writes_number}
 use Rattle.report.proofs.decimals.Decimal.of.Goals as goal
 
