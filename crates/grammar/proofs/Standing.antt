@@ -62,6 +62,7 @@ byte_decides : (b : ℕ) → Decides (is_name_byte b) (NameByte b)
 byte_decides b =
     Decides-or (is_letter b) ((leb 48 b && leb b 57) || eqb b 95) (letter_decides b)
     (Decides-or (leb 48 b && leb b 57) (eqb b 95) (Decides-and (leb 48 b) (leb b 57) (leb_decides 48 b) (leb_decides b 57)) (Decides-eqb b 95))
+
 bytes_decide : (bs : List ℕ) → Decides (list_all is_name_byte bs) (AllByRecursion NameByte bs)
 bytes_decide bs = Decides-by_and is_name_byte NameByte (list_all is_name_byte) byte_decides refl (λ _ _. refl) bs
 

@@ -1,10 +1,10 @@
 -- Reading a line, ground by ground. Assumes nothing.
-use Rattle.std.proofs.Common.{◌≡◌, ℕ, ◌+◌, ◌<◌, ◌≤◌, true, false, cond, List, [], ◌∷◌, length, get_or, drop, Some, None, Ok, Err, sym, refl, ap, ◌∙◌, arith}
-use Rattle.std.proofs.lemmas.List.{nil_from_length, at_drop_more, at_drop_all}
+use Rattle.std.proofs.Common.{◌≡◌, ℕ, List, length, Some, None, Ok, Err}
+use Rattle.std.proofs.lemmas.List.{nil_from_length}
 use Rattle.grammar.specs.declared.grounds.Ground.TheVariants.{LineTooLong, ByteOutside, NoMark, NotAName, WordCount}
 use Rattle.grammar.specs.declared.marks.Kind.{Kind}
 use Rattle.grammar.specs.Marks.{line_kind}
-use Rattle.grammar.specs.Reading.{is_plain, odd_byte, stands, line_words, line_reading}
+use Rattle.grammar.specs.Reading.{stands, line_words, line_reading}
 use Rattle.grammar.specs.Refusals.{fault}
 use Rattle.grammar.specs.Words.{Word}
 

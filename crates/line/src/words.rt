@@ -3,6 +3,7 @@ ghost use Rattle.std.specs.Prelude.{◌≡◌, ℕ, ◌+◌, ◌-◌, ◌<◌, �
 ghost use Rattle.std.specs.List.{list_all};
 ghost use Rattle.std.specs.Iterator.{at_most};
 ghost use Rattle.line.specs.Taking.{FirstWord, NextWord, WordStep};
+ghost use Rattle.grammar.specs.Pieces.{Front};
 ghost use Rattle.grammar.specs.Words.{is_letter, is_name_byte, obeys_name_rule, word, words_from, words_of};
 
 use crate::marked::MarkedLine;
@@ -22,9 +23,7 @@ fn is_name_byte(b: u8) -> bool
 
 /// The index of the first separator, or the length where there is none.
 pub(crate) fn until(bytes: &[u8], separator: u8) -> usize
-    ensures within { result ≤ length bytes.now }
-    ensures before { (k : ℕ) → k < result → slice_index bytes.now k ≢ separator }
-    ensures found { result < length bytes.now → slice_index bytes.now result ≡ separator }
+    ensures { Front separator result bytes.now }
 {
     bytes
         .iter()
@@ -53,6 +52,7 @@ fn is_name(word: &[u8]) -> bool
 pub fn word_at(line: &[u8], from: usize) -> Option<(usize, usize)>
     ensures { MatchOption result (length line.now < from) (FirstWord line.now from) }
 {
+    // Kept: a next-word call answers a tuple of plain numbers, and so do `next_word`, `line_at` and the iterators over them.
     if from > line.len() {
         return None;
     }

@@ -5,6 +5,7 @@ ghost use Rattle.report.specs.Numerals.{WritesNumber};
 /// The digits of a number, at the end of ten places: a 32-bit number has no more.
 #[derive(Clone, Copy)]
 pub struct Decimal {
+    // Kept: digits take no heap and a `Decimal` is `Copy`, and no vector of the toolchain is, `ArrayVec` among them.
     pub(crate) places: [u8; 10],
     pub(crate) start: usize,
     ghost within: { (start ≤ 9) × (length places ≡ 10) },

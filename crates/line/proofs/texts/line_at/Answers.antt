@@ -6,8 +6,7 @@ pub returns : goal.returns
 returns c =
     let text = c.args.text.now in
     let from = c.args.from in
-    let told = c.until.ensures in
-    let front = front_from 10 c.until.result from text (record { within = told.within; before = told.before; found = told.found }) in
+    let front = front_from 10 c.until.result from text c.until.ensures in
     record {
       inside = omega arith;
       starts = refl;
