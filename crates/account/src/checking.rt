@@ -1,5 +1,5 @@
 //! A text is checked line by line, up to the first line that cannot be read.
-ghost use Rattle.std.specs.Prelude.{◌≡◌, ◌<◌, ◌≤◌, Ok, Err, MatchResult};
+ghost use Rattle.std.specs.Prelude.{◌≡◌, ◌≤◌, Ok, Err, MatchResult};
 ghost use Rattle.grammar.specs.declared.grounds.LineFault.{LineFault};
 ghost use Rattle.grammar.specs.Reading.{line_reading};
 ghost use Rattle.line.specs.Records.{told};

@@ -7,7 +7,7 @@ ghost use Rattle.grammar.specs.Refusals.{fault};
 ghost use Rattle.grammar.specs.Words.{words_of, odd_name};
 ghost use Rattle.line.specs.Records.{Checks, words_in};
 
-use crate::places::Places;
+use crate::places::{Place, Places};
 use crate::words::Words;
 use grammar::grounds::{Ground, LineFault};
 use grammar::marks::Kind;
@@ -48,9 +48,9 @@ impl<'a> MarkedLine<'a> {
         ensures { MatchResult result (λ ps. (words_in self.entry.line.now ps ≡ words_of self.entry.line.now) × (odd_name (words_of self.entry.line.now) ≡ None)) (λ f. (f ≡ fault NotAName f.byte) × (odd_name (words_of self.entry.line.now) ≡ Some f.byte)) }
     {
         let mut places = Places::none();
-        for (index, word) in Words::of(self).enumerate() {
+        for word in Words::of(self) {
             let (start, end) = word?;
-            places.put(index, start, end);
+            places.push(Place { start, end });
         }
         Ok(places)
     }

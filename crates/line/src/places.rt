@@ -31,14 +31,14 @@ impl Places {
         }
     }
 
-    /// Notes where word number `index`, from 0, stands. Later words are forgotten.
-    pub(crate) fn put(&mut self, index: usize, start: usize, end: usize)
-        requires { index < MOST }
-        ensures places { take self.new.len self.new.all ≡ take index self.old.all ++ record { start = start; end = end } ∷ [] }
-        ensures len { self.new.len ≡ index + 1 }
+    /// Notes where one word more stands.
+    pub(crate) fn push(&mut self, place: Place)
+        requires { self.old.len < MOST }
+        ensures places { take self.new.len self.new.all ≡ take self.old.len self.old.all ++ place ∷ [] }
+        ensures len { self.new.len ≡ self.old.len + 1 }
     {
-        self.all[index] = Place { start, end };
-        self.len = index + 1;
+        self.all[self.len] = place;
+        self.len += 1;
     }
 
     /// The places, one for each word.
