@@ -29,22 +29,18 @@ counts_is ls a h = λ i. record { equations = h.equations i; faults = h.faults i
 
 -- ---- the first refused line
 
+read_over : (n : ℕ) (r : Result (Option Entry) LineFault) (later : Option Refusal) → is_ok r ≡ true → or_refused n r later ≡ later
+read_over n (Ok o) later e = refl
+read_over n (Err f) later e = absurd cc
+
 all_read : (n : ℕ) (ls : List (List ℕ)) → AllByRecursion Reads ls → first_refused n ls ≡ None
 all_read n [] h = refl
-all_read n (l ∷ ls) h = by (line_reading l) h.0 ∙ all_read (n + 1) ls h.1
-  where
-    by : (r : Result (Option Entry) LineFault) → is_ok r ≡ true → or_refused n r (first_refused (n + 1) ls) ≡ first_refused (n + 1) ls
-    by (Ok o) e = refl
-    by (Err f) e = absurd (let y : ◌≡◌ {A = ℕ} 0 1 = cc in omega arith)
+all_read n (l ∷ ls) h = read_over n (line_reading l) _ h.0 ∙ all_read (n + 1) ls h.1
 
 first_bad : (n : ℕ) (before : List (List ℕ)) (bad : List ℕ) (after : List (List ℕ)) (f : LineFault) → AllByRecursion Reads before → line_reading bad ≡ Err f →
     first_refused n (before ++ bad ∷ after) ≡ Some (in_line (n + length before) f)
 first_bad n [] bad after f h e = rw e (ap (λ k. Some (in_line k f)) (omega arith))
-first_bad n (l ∷ before) bad after f h e = by (line_reading l) h.0 ∙ first_bad (n + 1) before bad after f h.1 e ∙ ap (λ k. Some (in_line k f)) (omega arith)
-  where
-    by : (r : Result (Option Entry) LineFault) → is_ok r ≡ true → or_refused n r (first_refused (n + 1) (before ++ bad ∷ after)) ≡ first_refused (n + 1) (before ++ bad ∷ after)
-    by (Ok o) e = refl
-    by (Err x) e = absurd (let y : ◌≡◌ {A = ℕ} 0 1 = cc in omega arith)
+first_bad n (l ∷ before) bad after f h e = read_over n (line_reading l) _ h.0 ∙ first_bad (n + 1) before bad after f h.1 e ∙ ap (λ k. Some (in_line k f)) (omega arith)
 
 -- ---- a text of which so many lines were taken, all of them read, up to an index
 

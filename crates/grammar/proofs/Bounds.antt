@@ -12,7 +12,7 @@ use Rattle.grammar.specs.Pieces.{cut_at}
 use Rattle.grammar.specs.Reading.{is_plain, odd_byte, unless, words_by, stands, entry, answer, line_reading}
 use Rattle.grammar.specs.Refusals.{checking_order, else_after, first_fault}
 use Rattle.grammar.specs.Words.{with_places, words_of, obeys_name_rule, odd_name}
-use Rattle.grammar.proofs.Cuts.{spaced-cut_at}
+use Rattle.grammar.proofs.Cuts.{spaced-cut_at, words_either}
 
 -- a place that is at most n, if there is one
 abbrev Within : ℕ → Option ℕ → Type 0
@@ -53,13 +53,7 @@ name_within n k (p ∷ (q ∷ ps)) h = by (obeys_name_rule p) (name_within n (k 
 
 words_within : (line : List ℕ) → length line ≤ 240 → Within 241 (odd_name (words_of line))
 words_within line h =
-    ⊎_elim
-    (λ t. rw t.0 (⊎_elim
-    (λ u. rw u.0 (name_within 241 3 (cut_at 32 ([] ∷ []) (drop 2 line)) (omega (arith, t.1, length-drop 2 line, ap length (spaced-cut_at (drop 2 line))))))
-    (λ u. rw u.0 tt)
-    (leb_tells 2 (length line))))
-    (λ t. rw t.0 tt)
-    (leb_tells 3 (length line))
+    words_either line (λ ws. Within 241 (odd_name ws)) (name_within 241 3 (cut_at 32 ([] ∷ []) (drop 2 line)) (omega (arith, length-drop 2 line, ap length (spaced-cut_at (drop 2 line))))) tt
 
 names_within : (line : List ℕ) (o : Option Kind) → length line ≤ 240 → Within 241 (odd_name (words_by o line))
 names_within line None h = tt

@@ -92,6 +92,14 @@ placed_standing line from (p ∷ (q ∷ ps)) two e =
     let place : from + 1 + length p + 1 ≡ from + length p + 1 + 1 = omega arith in
     (standing line from p (32 ∷ spaced (q ∷ ps)) two (sym e), rw place (placed_standing line (from + length p + 1) (q ∷ ps) (omega arith) next))
 
+-- what holds of the pieces behind the mark, and of no words, holds of the words of a line
+pub words_either : (line : List ℕ) (P : List Word → Type 0) → P (with_places 3 (cut_at 32 ([] ∷ []) (drop 2 line))) → P [] → P (words_of line)
+words_either line P some none =
+    ⊎_elim
+    (λ t. rw t.0 (⊎_elim (λ u. rw u.0 some) (λ u. rw u.0 none) (leb_tells 2 (length line))))
+    (λ t. rw t.0 none)
+    (leb_tells 3 (length line))
+
 pub words_split : (line : List ℕ) → SplitAtSpaces line (words_of line)
 words_split line =
     let ps = cut_at 32 ([] ∷ []) (drop 2 line) in

@@ -62,7 +62,7 @@ all_names (w ∷ ws) e = by (all_names ws) (obeys_name_rule w.bytes) refl
   where
     by : (odd_name ws ≡ None → AllByRecursion (λ v. Name v.bytes) ws) → (b : Bool) → obeys_name_rule w.bytes ≡ b → AllByRecursion (λ v. Name v.bytes) (w ∷ ws)
     by rest true t = ((name_decides w.bytes).0 t, rest (sym (rw t) ∙ e))
-    by rest false t = absurd (let z : Some w.start ≡ None = sym (rw t) ∙ e in let y : ◌≡◌ {A = ℕ} 0 1 = cc in omega arith)
+    by rest false t = absurd (let z : Some w.start ≡ None = sym (rw t) ∙ e in cc)
 
 worded_words : (line : List ℕ) → HasWords line → line_words line ≡ words_of line
 worded_words line (inl m) = rw (kind_from_mark line Equation m)
@@ -101,4 +101,4 @@ read_entry line x e = by (first_fault (stands line) checking_order) e
   where
     by : (o : Option LineFault) → answer o (entry line) ≡ Ok x → x ≡ entry line
     by None e = cc
-    by (Some f) e = absurd (let y : ◌≡◌ {A = ℕ} 0 1 = cc in omega arith)
+    by (Some f) e = absurd cc

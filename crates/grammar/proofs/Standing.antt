@@ -12,6 +12,7 @@ use Rattle.grammar.specs.Objections.{Letter, NameByte, Name, Marked, HasWords, O
 use Rattle.grammar.specs.Pieces.{cut_at}
 use Rattle.grammar.specs.Reading.{is_plain, odd_byte, unless, stands, takes, takes_by, words_with, line_words}
 use Rattle.grammar.specs.Words.{Word, with_places, words_of, is_letter, is_name_byte, obeys_name_rule, odd_name}
+use Rattle.grammar.proofs.Cuts.{words_either}
 
 -- o is the leftmost number of which P holds, if there is one
 abbrev pub Leftmost : Option ℕ → (ℕ → Type 0) → Type 0
@@ -67,7 +68,7 @@ bytes_decide : (bs : List ℕ) → Decides (list_all is_name_byte bs) (AllByRecu
 bytes_decide bs = Decides-by_and is_name_byte NameByte (list_all is_name_byte) byte_decides refl (λ _ _. refl) bs
 
 pub name_decides : (w : List ℕ) → Decides (obeys_name_rule w) (Name w)
-name_decides [] = (λ e. absurd (let z : ◌≡◌ {A = ℕ} 0 1 = cc in omega arith), λ n. absurd (omega (arith, ap length n.whole)))
+name_decides [] = (λ e. absurd cc, λ n. absurd (omega (arith, ap length n.whole)))
 name_decides (b ∷ bs) =
     Decides-like (obeys_name_rule (b ∷ bs))
     (λ p. record { first = b; rest = bs; whole = refl; letter = p.0; short = p.1.0; others = p.1.1 })
@@ -92,12 +93,12 @@ pub kind_from_mark : (line : List ℕ) (kind : Kind) → Marked line kind → li
 kind_from_mark line kind m = ap line_kind m.1 ∙ kind_of-mark kind
 
 pub mark_from_kind : (line : List ℕ) (kind : Kind) → line_kind line ≡ Some kind → Marked line kind
-mark_from_kind [] kind e = absurd (let z : ◌≡◌ {A = ℕ} 0 1 = cc in omega arith)
-mark_from_kind (a ∷ []) kind e = absurd (let z : ◌≡◌ {A = ℕ} 0 1 = cc in omega arith)
+mark_from_kind [] kind e = absurd cc
+mark_from_kind (a ∷ []) kind e = absurd cc
 mark_from_kind (a ∷ (b ∷ rest)) kind e =
     ⊎_elim
     (λ t. (rest, ap (λ x. x ∷ (b ∷ rest)) (mark_of_kind a kind (sym (rw t.0) ∙ e)) ∙ ap (λ x. mark kind ∷ (x ∷ rest)) t.1))
-    (λ t. absurd (let z : None ≡ Some kind = sym (rw t.0) ∙ e in let y : ◌≡◌ {A = ℕ} 0 1 = cc in omega arith))
+    (λ t. absurd (let z : None ≡ Some kind = sym (rw t.0) ∙ e in cc))
     (eqb_tells b 58)
 
 -- ---- the kind of a line, by cases
@@ -115,7 +116,7 @@ sort : (line : List ℕ) → Sort line
 sort line = sort_by line (line_kind line) refl
 
 pub unmarked : (line : List ℕ) → line_kind line ≡ None → (kind : Kind) → Marked line kind → ⊥
-unmarked line e kind m = let k = kind_from_mark line kind m in let y : ◌≡◌ {A = ℕ} 0 1 = cc in omega arith
+unmarked line e kind m = let k = kind_from_mark line kind m in cc
 
 -- a line has one mark
 other_mark : (line : List ℕ) (a b : Kind) → line_kind line ≡ Some a → Marked line b → a ≡ b
@@ -124,10 +125,10 @@ other_mark line a b e m = let k = kind_from_mark line b m in cc
 worded_not_comment : (line : List ℕ) → line_kind line ≡ Some Comment → HasWords line → ⊥
 worded_not_comment line e w =
     ⊎_elim
-    (λ m. let k = kind_from_mark line Equation m in let y : ◌≡◌ {A = ℕ} 0 1 = cc in omega arith)
+    (λ m. let k = kind_from_mark line Equation m in cc)
     (⊎_elim
-    (λ m. let k = kind_from_mark line Fault m in let y : ◌≡◌ {A = ℕ} 0 1 = cc in omega arith)
-    (λ m. let k = kind_from_mark line Offer m in let y : ◌≡◌ {A = ℕ} 0 1 = cc in omega arith))
+    (λ m. let k = kind_from_mark line Fault m in cc)
+    (λ m. let k = kind_from_mark line Offer m in cc))
     w
 
 worded_marked : (line : List ℕ) → line_kind line ≡ None → HasWords line → ⊥
@@ -164,11 +165,7 @@ placed_rising n k [] h = tt
 placed_rising n k (p ∷ ps) h = (h, placed_rising k (k + length p + 1) ps (omega arith))
 
 words_rising : (line : List ℕ) → Rising 0 (words_of line)
-words_rising line =
-    ⊎_elim
-    (λ t. rw t.0 (⊎_elim (λ u. rw u.0 (placed_rising 0 3 (cut_at 32 ([] ∷ []) (drop 2 line)) (omega arith))) (λ u. rw u.0 tt) (leb_tells 2 (length line))))
-    (λ t. rw t.0 tt)
-    (leb_tells 3 (length line))
+words_rising line = words_either line (Rising 0) (placed_rising 0 3 (cut_at 32 ([] ∷ []) (drop 2 line)) (omega arith)) tt
 
 odd_names : (n : ℕ) (ws : List Word) → Rising n ws → Leftmost (odd_name ws) (OddName ws)
 odd_names n [] r = λ k p. omega (arith, p.1.1)
@@ -185,7 +182,7 @@ odd_names n (w ∷ ws) r = by (odd_names w.start ws r.1) (obeys_name_rule w.byte
     by rest true e = rw e (leftmost_like (odd_name ws) (OddName ws) (OddName (w ∷ ws)) more (less ((name_decides w.bytes).0 e)) rest)
     by rest false e =
         rw e (
-          (w, (0, omega arith, refl), refl, λ named. let t = (name_decides w.bytes).1 named in let y : ◌≡◌ {A = ℕ} 0 1 = cc in omega arith),
+          (w, (0, omega arith, refl), refl, λ named. let t = (name_decides w.bytes).1 named in cc),
           λ j p. omega (arith, p.2, rising_least w.start (w ∷ ws) (omega arith, r.1) p.0 p.1),
         )
 
