@@ -4,7 +4,7 @@ ghost use Rattle.grammar.specs.declared.grounds.Ground.TheVariants.{LineTooLong,
 ghost use Rattle.grammar.specs.Reading.{is_plain};
 ghost use Rattle.line.specs.Records.{Checks, ChecksTwo, ReadsLine};
 
-use crate::lengths::at_most;
+use crate::lengths::no_more_than;
 use crate::marked::MarkedLine;
 use crate::records::Record;
 use grammar::grounds::{Ground, LineFault};
@@ -34,7 +34,7 @@ fn plain_bytes(line: &[u8]) -> Result<(), LineFault>
 fn sound_bytes(line: &[u8]) -> Result<(), LineFault>
     ensures { ChecksTwo line.now LineTooLong ByteOutside (length line.now ≤ 240) result }
 {
-    at_most(line, 240, Ground::LineTooLong)?;
+    no_more_than(line, 240, Ground::LineTooLong)?;
     plain_bytes(line)
 }
 

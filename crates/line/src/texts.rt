@@ -5,7 +5,7 @@ ghost use Rattle.grammar.specs.Refusals.{fault};
 ghost use Rattle.grammar.specs.Texts.{text_lines, lines_from, CutIntoLines, FirstLine, LineStep};
 ghost use Rattle.std.specs.Iterator.{at_most};
 
-use crate::lengths::at_most;
+use crate::lengths::no_more_than;
 use crate::words::until;
 use grammar::grounds::{Ground, LineFault};
 
@@ -13,7 +13,7 @@ use grammar::grounds::{Ground, LineFault};
 pub fn text_fits(text: &[u8]) -> Result<(), LineFault>
     ensures { MatchResult result (λ _. length text.now ≤ 32768) (λ f. (f ≡ fault TextTooLong 0) × (32768 < length text.now)) }
 {
-    at_most(text, 32768, Ground::TextTooLong)
+    no_more_than(text, 32768, Ground::TextTooLong)
 }
 
 /// The line that begins at an index of the text, as the indices of its first byte and of the byte after its last; none from
