@@ -1,6 +1,6 @@
 -- What checking a text line by line answers. Assumes nothing.
 use Rattle.std.specs.Prelude.{◌≡◌, ℕ, ◌+◌, ◌<◌, ◌≤◌, true, cond, ◌⊎◌, List, [], ◌∷◌, ◌++◌, length, is_ok, Some, None, Ok, Err, Option, Result, MatchResult, ◌==◌, nat_le}
-use Rattle.std.specs.List.{AllByRecursion}
+use Rattle.std.specs.List.{AllByRecursion, count_by}
 use Rattle.grammar.specs.declared.grounds.Ground.TheVariants.{TextTooLong}
 use Rattle.grammar.specs.declared.grounds.LineFault.{LineFault}
 use Rattle.grammar.specs.declared.grounds.Refusal.{Refusal}
@@ -8,7 +8,7 @@ use Rattle.grammar.specs.declared.marks.Kind.{Kind}
 use Rattle.grammar.specs.declared.marks.Kind.TheVariants.{Equation, Fault, Offer, Comment}
 use Rattle.grammar.specs.Marks.{mark, line_kind}
 use Rattle.grammar.specs.Reading.{Entry, line_reading}
-use Rattle.grammar.specs.Texts.{lines}
+use Rattle.grammar.specs.Texts.{text_lines}
 use Rattle.account.specs.declared.accounts.Account.{Account}
 
 -- the character of a line's mark, 0 where it has none
@@ -18,8 +18,7 @@ mark_by (Some kind) = mark kind
 
 -- how many lines have the mark
 abbrev pub marked : ℕ → List (List ℕ) → ℕ
-marked c [] = 0
-marked c (l ∷ ls) = cond (mark_by (line_kind l) == c) 1 0 + marked c ls
+marked c ls = count_by (λ l. mark_by (line_kind l) == c) ls
 
 abbrev pub counts : List (List ℕ) → Account
 counts ls = record {
@@ -47,7 +46,7 @@ account_or None ls = Ok (counts ls)
 account_or (Some r) ls = Err r
 
 abbrev pub account : List ℕ → Result Account Refusal
-account text = cond (nat_le (length text) 32768) (account_or (first_refused 1 (lines text)) (lines text)) (Err (record { reason = TextTooLong; line = 0; byte = 0 }))
+account text = cond (nat_le (length text) 32768) (account_or (first_refused 1 (text_lines text)) (text_lines text)) (Err (record { reason = TextTooLong; line = 0; byte = 0 }))
 
 -- line number n of the text is refused, and each line before it reads
 pub record FirstRefused (ls : List (List ℕ)) (r : Refusal) : Type 0 where
@@ -64,5 +63,5 @@ pub record FirstRefused (ls : List (List ℕ)) (r : Refusal) : Type 0 where
 abbrev pub CheckedText : List ℕ → Result Account Refusal → Type 0
 CheckedText text r =
     MatchResult r
-    (λ a. (length text ≤ 32768) × AllByRecursion (λ l. is_ok (line_reading l) ≡ true) (lines text) × (a ≡ counts (lines text)))
-    (λ e. ((32768 < length text) × (e ≡ record { reason = TextTooLong; line = 0; byte = 0 })) ⊎ ((length text ≤ 32768) × FirstRefused (lines text) e))
+    (λ a. (length text ≤ 32768) × AllByRecursion (λ l. is_ok (line_reading l) ≡ true) (text_lines text) × (a ≡ counts (text_lines text)))
+    (λ e. ((32768 < length text) × (e ≡ record { reason = TextTooLong; line = 0; byte = 0 })) ⊎ ((length text ≤ 32768) × FirstRefused (text_lines text) e))

@@ -1,5 +1,8 @@
 //! A text is checked line by line, up to the first line that cannot be read.
-ghost use Rattle.std.specs.Prelude.{◌≡◌, ◌+◌, ◌<◌, ◌≤◌};
+ghost use Rattle.std.specs.Prelude.{◌≡◌, ◌≤◌, Ok, Err, MatchResult};
+ghost use Rattle.grammar.specs.declared.grounds.LineFault.{LineFault};
+ghost use Rattle.grammar.specs.Reading.{line_reading};
+ghost use Rattle.line.specs.Records.{told};
 ghost use Rattle.account.specs.Checking.{account, in_line, CheckedText};
 ghost use Rattle.account.specs.Noting.{kind_by, FewerThan, Noted};
 
@@ -11,18 +14,6 @@ use line::records::Record;
 use line::texts::{Lines, text_fits};
 
 impl Account {
-    fn none() -> Account
-        ensures { result ≡ record { equations = 0; faults = 0; offers = 0; comments = 0; empty = 0 } }
-    {
-        Account {
-            equations: 0,
-            faults: 0,
-            offers: 0,
-            comments: 0,
-            empty: 0,
-        }
-    }
-
     /// One line more.
     fn note(&mut self, line: Option<Record>)
         requires { FewerThan 32768 self.old }
@@ -40,16 +31,23 @@ impl Account {
     }
 }
 
-/// The fault of the line with an index, counted from 0, as it is shown.
-fn in_line(index: usize, fault: LineFault) -> Refusal
-    requires { (index < 32768) × (fault.byte ≤ 241) }
-    ensures { result ≡ in_line (index + 1) fault }
+/// The fault of a line as it is shown, with the line's number; a fault of the whole text has the number 0.
+fn in_line(line: u32, fault: LineFault) -> Refusal
+    requires { fault.byte ≤ 241 }
+    ensures { result ≡ in_line line fault }
 {
     Refusal {
         reason: fault.reason,
-        line: index as u32 + 1,
+        line,
         byte: fault.byte as u32,
     }
+}
+
+/// Reads the line with a number, which a refusal tells.
+fn read_numbered(line: &[u8], number: u32) -> Result<Option<Record>, Refusal>
+    ensures { MatchResult result (λ o. told line.now (Ok o) ≡ line_reading line.now) (λ r. (f : LineFault) × (line_reading line.now ≡ Err f) × (r ≡ in_line number f)) }
+{
+    read_line(line).map_err(|fault| in_line(number, fault))
 }
 
 /// Checks a text line by line: what it holds, or the first line that cannot be read.
@@ -57,19 +55,11 @@ pub fn check_text(text: &[u8]) -> Result<Account, Refusal>
     ensures value { result ≡ account text.now }
     ensures law { CheckedText text.now result }
 {
-    if let Err(fault) = text_fits(text) {
-        return Err(Refusal {
-            reason: fault.reason,
-            line: 0,
-            byte: 0,
-        });
-    }
-    let mut account = Account::none();
+    text_fits(text).map_err(|fault| in_line(0, fault))?;
+    let mut account = Account::default();
     for (index, (start, end)) in Lines::of(text).enumerate() {
-        match read_line(&text[start..end]) {
-            Ok(line) => account.note(line),
-            Err(fault) => return Err(in_line(index, fault)),
-        }
+        let line = read_numbered(&text[start..end], index as u32 + 1)?;
+        account.note(line);
     }
     Ok(account)
 }

@@ -11,8 +11,8 @@ use Rattle.grammar.specs.Objections.{spaced}
 use Rattle.grammar.specs.Pieces.{cut_at}
 use Rattle.grammar.specs.Reading.{is_plain, odd_byte, unless, words_by, stands, entry, answer, line_reading}
 use Rattle.grammar.specs.Refusals.{checking_order, else_after, first_fault}
-use Rattle.grammar.specs.Words.{with_places, words_of, is_name, odd_name}
-use Rattle.grammar.proofs.Cuts.{spaced-cut_at}
+use Rattle.grammar.specs.Words.{with_places, words_of, obeys_name_rule, odd_name}
+use Rattle.grammar.proofs.Cuts.{spaced-cut_at, words_either}
 
 -- a place that is at most n, if there is one
 abbrev Within : ℕ → Option ℕ → Type 0
@@ -40,12 +40,12 @@ byte_within n k (b ∷ bs) h = by (is_plain b) (byte_within n (k + 1) bs (omega 
 -- the pieces and the spaces between them end before n
 name_within : (n k : ℕ) (ps : List (List ℕ)) → k + length (spaced ps) ≤ n → Within n (odd_name (with_places k ps))
 name_within n k [] h = tt
-name_within n k (p ∷ []) h = by (is_name p)
+name_within n k (p ∷ []) h = by (obeys_name_rule p)
   where
     by : (v : Bool) → Within n (cond v None (Some k))
     by true = tt
     by false = omega arith
-name_within n k (p ∷ (q ∷ ps)) h = by (is_name p) (name_within n (k + length p + 1) (q ∷ ps) (omega (arith, length-append p (32 ∷ spaced (q ∷ ps)))))
+name_within n k (p ∷ (q ∷ ps)) h = by (obeys_name_rule p) (name_within n (k + length p + 1) (q ∷ ps) (omega (arith, length-append p (32 ∷ spaced (q ∷ ps)))))
   where
     by : (v : Bool) → Within n (odd_name (with_places (k + length p + 1) (q ∷ ps))) → Within n (cond v (odd_name (with_places (k + length p + 1) (q ∷ ps))) (Some k))
     by true r = r
@@ -53,13 +53,7 @@ name_within n k (p ∷ (q ∷ ps)) h = by (is_name p) (name_within n (k + length
 
 words_within : (line : List ℕ) → length line ≤ 240 → Within 241 (odd_name (words_of line))
 words_within line h =
-    ⊎_elim
-    (λ t. rw t.0 (⊎_elim
-    (λ u. rw u.0 (name_within 241 3 (cut_at 32 ([] ∷ []) (drop 2 line)) (omega (arith, t.1, length-drop 2 line, ap length (spaced-cut_at (drop 2 line))))))
-    (λ u. rw u.0 tt)
-    (leb_tells 2 (length line))))
-    (λ t. rw t.0 tt)
-    (leb_tells 3 (length line))
+    words_either line (λ ws. Within 241 (odd_name ws)) (name_within 241 3 (cut_at 32 ([] ∷ []) (drop 2 line)) (omega (arith, length-drop 2 line, ap length (spaced-cut_at (drop 2 line))))) tt
 
 names_within : (line : List ℕ) (o : Option Kind) → length line ≤ 240 → Within 241 (odd_name (words_by o line))
 names_within line None h = tt

@@ -1,11 +1,11 @@
 -- The laws of cutting at a separator: words and lines. Assumes nothing.
 use Rattle.std.proofs.Common.{◌≡◌, ℕ, ◌+◌, ◌-◌, ◌<◌, ◌≤◌, true, false, eqb, ltb, leb, ◌≢◌, List, [], ◌∷◌, ◌++◌, map, length, drop, sym, refl, ap, ◌∙◌, ⊎_elim, append_assoc, append-nil, arith, length-drop, drop-drop}
-use Rattle.std.specs.List.{between, AllByRecursion}
+use Rattle.std.specs.List.{between, AllByRecursion, onto_first}
 use Rattle.std.proofs.lemmas.List.{take_at, drop_at, drop_all, length_push}
 use Rattle.std.proofs.lemmas.Bool.Decides.{nat_tests, eqb_tells, leb_tells}
 use Rattle.grammar.specs.Objections.{spaced, SplitAtSpaces}
-use Rattle.grammar.specs.Pieces.{onto_first, cut_at}
-use Rattle.grammar.specs.Texts.{lines, ended, CutIntoLines}
+use Rattle.grammar.specs.Pieces.{cut_at}
+use Rattle.grammar.specs.Texts.{text_lines, ended, CutIntoLines}
 use Rattle.grammar.specs.Words.{Word, word, with_places, words_of}
 
 -- no piece holds the separator
@@ -92,6 +92,14 @@ placed_standing line from (p ∷ (q ∷ ps)) two e =
     let place : from + 1 + length p + 1 ≡ from + length p + 1 + 1 = omega arith in
     (standing line from p (32 ∷ spaced (q ∷ ps)) two (sym e), rw place (placed_standing line (from + length p + 1) (q ∷ ps) (omega arith) next))
 
+-- what holds of the pieces behind the mark, and of no words, holds of the words of a line
+pub words_either : (line : List ℕ) (P : List Word → Type 0) → P (with_places 3 (cut_at 32 ([] ∷ []) (drop 2 line))) → P [] → P (words_of line)
+words_either line P some none =
+    ⊎_elim
+    (λ t. rw t.0 (⊎_elim (λ u. rw u.0 some) (λ u. rw u.0 none) (leb_tells 2 (length line))))
+    (λ t. rw t.0 none)
+    (leb_tells 3 (length line))
+
 pub words_split : (line : List ℕ) → SplitAtSpaces line (words_of line)
 words_split line =
     let ps = cut_at 32 ([] ∷ []) (drop 2 line) in
@@ -120,33 +128,33 @@ ended_glue b [] h = absurd (omega arith)
 ended_glue b (l ∷ ls) h = refl
 
 -- what one byte in front adds
-ended_step : (b : ℕ) (bs : List ℕ) → SomePieces (lines bs) → ended (lines (b ∷ bs)) ≡ b ∷ ended (lines bs)
+ended_step : (b : ℕ) (bs : List ℕ) → SomePieces (text_lines bs) → ended (text_lines (b ∷ bs)) ≡ b ∷ ended (text_lines bs)
 ended_step b bs some =
     ⊎_elim
-    (λ t. rw t.0 (ap (λ x. x ∷ ended (lines bs)) (sym t.1)))
-    (λ t. rw t.0 (ended_glue b (lines bs) some))
+    (λ t. rw t.0 (ap (λ x. x ∷ ended (text_lines bs)) (sym t.1)))
+    (λ t. rw t.0 (ended_glue b (text_lines bs) some))
     (eqb_tells b 10)
 
-lines_some : (front : List ℕ) (b : ℕ) → SomePieces (lines (front ++ b ∷ []))
+lines_some : (front : List ℕ) (b : ℕ) → SomePieces (text_lines (front ++ b ∷ []))
 lines_some [] b = cut_some 10 [] b []
 lines_some (a ∷ front) b = cut_some 10 [] a (front ++ b ∷ [])
 
-ended_closed : (front : List ℕ) → ended (lines (front ++ 10 ∷ [])) ≡ front ++ 10 ∷ []
+ended_closed : (front : List ℕ) → ended (text_lines (front ++ 10 ∷ [])) ≡ front ++ 10 ∷ []
 ended_closed [] = refl
 ended_closed (b ∷ front) = ended_step b (front ++ 10 ∷ []) (lines_some front 10) ∙ ap (λ l. b ∷ l) (ended_closed front)
 
-ended_unclosed : (front : List ℕ) (b : ℕ) → b ≢ 10 → ended (lines (front ++ b ∷ [])) ≡ (front ++ b ∷ []) ++ 10 ∷ []
+ended_unclosed : (front : List ℕ) (b : ℕ) → b ≢ 10 → ended (text_lines (front ++ b ∷ [])) ≡ (front ++ b ∷ []) ++ 10 ∷ []
 ended_unclosed [] b ne = let e : eqb b 10 ≡ false = grind (arith, nat_tests) in rw e
 ended_unclosed (a ∷ front) b ne = ended_step a (front ++ b ∷ []) (lines_some front b) ∙ ap (λ l. a ∷ l) (ended_unclosed front b ne)
 
-lines_none : (text : List ℕ) → lines text ≡ [] → text ≡ []
+lines_none : (text : List ℕ) → text_lines text ≡ [] → text ≡ []
 lines_none [] e = refl
 lines_none (b ∷ bs) e = absurd (omega (arith, cut_some 10 [] b bs, ap length e))
 
-pub text_cut : (text : List ℕ) → CutIntoLines text (lines text)
+pub text_cut : (text : List ℕ) → CutIntoLines text (text_lines text)
 text_cut text = record {
   unbroken = cut_apart 10 [] text tt;
-  closed = λ front e. ap (λ t. ended (lines t)) e ∙ ended_closed front ∙ sym e;
-  unclosed = λ front b ne e. ap (λ t. ended (lines t)) e ∙ ended_unclosed front b ne ∙ ap (λ t. t ++ 10 ∷ []) (sym e);
-  none = (λ e. ap lines e, lines_none text);
+  closed = λ front e. ap (λ t. ended (text_lines t)) e ∙ ended_closed front ∙ sym e;
+  unclosed = λ front b ne e. ap (λ t. ended (text_lines t)) e ∙ ended_unclosed front b ne ∙ ap (λ t. t ++ 10 ∷ []) (sym e);
+  none = (λ e. ap text_lines e, lines_none text);
 }

@@ -2,6 +2,5 @@ pub mod Cuts
 pub mod Standing
 pub mod Order
 pub mod Bounds
-pub mod Names
 pub mod Splits
 pub mod Steps

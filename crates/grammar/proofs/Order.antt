@@ -11,7 +11,7 @@ use Rattle.grammar.specs.Marks.{line_kind}
 use Rattle.grammar.specs.Objections.{Name, Marked, HasWords, Applies, Enters, ByGrounds}
 use Rattle.grammar.specs.Reading.{Entry, stands, line_words, entry, answer, line_reading}
 use Rattle.grammar.specs.Refusals.{checking_order, else_after, first_fault, FirstInOrder}
-use Rattle.grammar.specs.Words.{Word, words_of, is_name, odd_name}
+use Rattle.grammar.specs.Words.{Word, words_of, obeys_name_rule, odd_name}
 use Rattle.grammar.proofs.Standing.{Leftmost, each_ground, name_decides, kind_from_mark, mark_from_kind, unmarked}
 
 -- ---- any order, any grounds
@@ -58,11 +58,11 @@ free_of o P e h = subst (λ x. Leftmost x P) e h
 
 all_names : (ws : List Word) → odd_name ws ≡ None → AllByRecursion (λ w. Name w.bytes) ws
 all_names [] e = tt
-all_names (w ∷ ws) e = by (all_names ws) (is_name w.bytes) refl
+all_names (w ∷ ws) e = by (all_names ws) (obeys_name_rule w.bytes) refl
   where
-    by : (odd_name ws ≡ None → AllByRecursion (λ v. Name v.bytes) ws) → (b : Bool) → is_name w.bytes ≡ b → AllByRecursion (λ v. Name v.bytes) (w ∷ ws)
+    by : (odd_name ws ≡ None → AllByRecursion (λ v. Name v.bytes) ws) → (b : Bool) → obeys_name_rule w.bytes ≡ b → AllByRecursion (λ v. Name v.bytes) (w ∷ ws)
     by rest true t = ((name_decides w.bytes).0 t, rest (sym (rw t) ∙ e))
-    by rest false t = absurd (let z : Some w.start ≡ None = sym (rw t) ∙ e in let y : ◌≡◌ {A = ℕ} 0 1 = cc in omega arith)
+    by rest false t = absurd (let z : Some w.start ≡ None = sym (rw t) ∙ e in cc)
 
 worded_words : (line : List ℕ) → HasWords line → line_words line ≡ words_of line
 worded_words line (inl m) = rw (kind_from_mark line Equation m)
@@ -101,4 +101,4 @@ read_entry line x e = by (first_fault (stands line) checking_order) e
   where
     by : (o : Option LineFault) → answer o (entry line) ≡ Ok x → x ≡ entry line
     by None e = cc
-    by (Some f) e = absurd (let y : ◌≡◌ {A = ℕ} 0 1 = cc in omega arith)
+    by (Some f) e = absurd cc

@@ -1,17 +1,11 @@
 -- One piece taken off the front of bytes that are cut at a separator. Assumes nothing.
-use Rattle.std.proofs.Common.{◌≡◌, ℕ, zero, suc, ◌+◌, ◌-◌, ◌<◌, ◌≤◌, true, false, eqb, leb, ◌⊎◌, List, [], ◌∷◌, length, get_or, take, drop, refl, subst, ⊎_elim, arith, length-drop, length-take-le, drop-drop}
+use Rattle.std.proofs.Common.{◌≡◌, ℕ, zero, suc, ◌+◌, ◌-◌, ◌<◌, ◌≤◌, true, false, eqb, leb, ◌⊎◌, List, [], ◌∷◌, length, take, drop, refl, subst, ⊎_elim, arith, length-drop, length-take-le, drop-drop}
 use Rattle.std.specs.List.{between}
 use Rattle.std.proofs.lemmas.List.{take_all, take_rest, drop_all}
 use Rattle.std.proofs.lemmas.Bool.Decides.{nat_tests, leb_tells}
-use Rattle.grammar.specs.Pieces.{cut_at}
+use Rattle.grammar.specs.Pieces.{cut_at, Front}
 use Rattle.grammar.specs.Texts.{lines_from}
 use Rattle.grammar.specs.Words.{word, words_from}
-
--- the first n of the bytes are no separator, and the next one is, unless they are all
-pub record Front (separator n : ℕ) (bs : List ℕ) : Type 0 where
-  pub within : n ≤ length bs
-  pub before : (k : ℕ) → k < n → get_or bs k 0 ≡ separator → ⊥
-  pub found : n < length bs → get_or bs n 0 ≡ separator
 
 -- what lies from an index on, as `&bytes[from..]` gives it
 pub front_from : (s n from : ℕ) (bs : List ℕ) → Front s n (take (length bs - from) (drop from bs)) → Front s n (drop from bs)

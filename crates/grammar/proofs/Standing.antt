@@ -1,6 +1,6 @@
 -- Each ground by the computing definition and in words: they agree. Assumes nothing.
 use Rattle.std.proofs.Common.{◌≡◌, ℕ, zero, suc, ◌+◌, ◌<◌, ◌≤◌, Bool, true, false, cond, ◌&&◌, ◌||◌, eqb, ltb, leb, ◌⊎◌, List, [], ◌∷◌, length, get_or, drop, is_some, Some, None, Decides, Option, sym, refl, ap, ◌∙◌, subst, inl, inr, ⊎_elim, arith, MatchOption}
-use Rattle.std.specs.List.{AllByRecursion}
+use Rattle.std.specs.List.{AllByRecursion, list_all}
 use Rattle.std.proofs.lemmas.Bool.Decides.{nat_tests, eqb_tells, leb_tells, Decides-eqb, Decides-and, Decides-or, Decides-like}
 use Rattle.std.proofs.ByRecursion.{Decides-by_and}
 use Rattle.grammar.specs.declared.grounds.Ground.{Ground}
@@ -11,7 +11,8 @@ use Rattle.grammar.specs.Marks.{mark, kind_of, line_kind}
 use Rattle.grammar.specs.Objections.{Letter, NameByte, Name, Marked, HasWords, OneOfWords, Unmarked, Miscounted, OddName, Applies}
 use Rattle.grammar.specs.Pieces.{cut_at}
 use Rattle.grammar.specs.Reading.{is_plain, odd_byte, unless, stands, takes, takes_by, words_with, line_words}
-use Rattle.grammar.specs.Words.{Word, with_places, words_of, is_letter, is_name_byte, all_name_bytes, is_name, odd_name}
+use Rattle.grammar.specs.Words.{Word, with_places, words_of, is_letter, is_name_byte, obeys_name_rule, odd_name}
+use Rattle.grammar.proofs.Cuts.{words_either}
 
 -- o is the leftmost number of which P holds, if there is one
 abbrev pub Leftmost : Option ℕ → (ℕ → Type 0) → Type 0
@@ -52,6 +53,9 @@ odd_bytes n (b ∷ bs) =
 
 -- ---- names
 
+leb_decides : (a b : ℕ) → Decides (leb a b) (a ≤ b)
+leb_decides a b = (λ e. grind (arith, nat_tests, leb_tells a b), λ l. grind (arith, nat_tests, leb_tells a b))
+
 letter_decides : (b : ℕ) → Decides (is_letter b) (Letter b)
 letter_decides b = (λ e. grind (arith, nat_tests, leb_tells 97 b, leb_tells b 122, leb_tells 65 b, leb_tells b 90), λ l. grind (arith, nat_tests, leb_tells 97 b, leb_tells b 122, leb_tells 65 b, leb_tells b 90))
 
@@ -59,26 +63,20 @@ byte_decides : (b : ℕ) → Decides (is_name_byte b) (NameByte b)
 byte_decides b =
     Decides-or (is_letter b) ((leb 48 b && leb b 57) || eqb b 95) (letter_decides b)
     (Decides-or (leb 48 b && leb b 57) (eqb b 95) (Decides-and (leb 48 b) (leb b 57) (leb_decides 48 b) (leb_decides b 57)) (Decides-eqb b 95))
-  where
-    leb_decides : (a b : ℕ) → Decides (leb a b) (a ≤ b)
-    leb_decides a b = (λ e. grind (arith, nat_tests, leb_tells a b), λ l. grind (arith, nat_tests, leb_tells a b))
 
-bytes_decide : (bs : List ℕ) → Decides (all_name_bytes bs) (AllByRecursion NameByte bs)
-bytes_decide bs = Decides-by_and is_name_byte NameByte all_name_bytes byte_decides refl (λ _ _. refl) bs
+bytes_decide : (bs : List ℕ) → Decides (list_all is_name_byte bs) (AllByRecursion NameByte bs)
+bytes_decide bs = Decides-by_and is_name_byte NameByte (list_all is_name_byte) byte_decides refl (λ _ _. refl) bs
 
-short_decides : (n : ℕ) → Decides (leb n 7) (n ≤ 7)
-short_decides n = (λ e. grind (arith, nat_tests, leb_tells n 7), λ l. grind (arith, nat_tests, leb_tells n 7))
-
-pub name_decides : (w : List ℕ) → Decides (is_name w) (Name w)
-name_decides [] = (λ e. absurd (let z : ◌≡◌ {A = ℕ} 0 1 = cc in omega arith), λ n. absurd (omega (arith, ap length n.whole)))
+pub name_decides : (w : List ℕ) → Decides (obeys_name_rule w) (Name w)
+name_decides [] = (λ e. absurd cc, λ n. absurd (omega (arith, ap length n.whole)))
 name_decides (b ∷ bs) =
-    Decides-like (is_name (b ∷ bs))
+    Decides-like (obeys_name_rule (b ∷ bs))
     (λ p. record { first = b; rest = bs; whole = refl; letter = p.0; short = p.1.0; others = p.1.1 })
     (λ n.
     let f : n.first ≡ b = cc in
     let r : n.rest ≡ bs = cc in
     (subst Letter f n.letter, (subst (λ l. length l ≤ 7) r n.short, subst (AllByRecursion NameByte) r n.others)))
-    (Decides-and (is_letter b) (leb (length bs) 7 && all_name_bytes bs) (letter_decides b) (Decides-and (leb (length bs) 7) (all_name_bytes bs) (short_decides (length bs)) (bytes_decide bs)))
+    (Decides-and (is_letter b) (leb (length bs) 7 && list_all is_name_byte bs) (letter_decides b) (Decides-and (leb (length bs) 7) (list_all is_name_byte bs) (leb_decides (length bs) 7) (bytes_decide bs)))
 
 -- ---- marks
 
@@ -95,12 +93,12 @@ pub kind_from_mark : (line : List ℕ) (kind : Kind) → Marked line kind → li
 kind_from_mark line kind m = ap line_kind m.1 ∙ kind_of-mark kind
 
 pub mark_from_kind : (line : List ℕ) (kind : Kind) → line_kind line ≡ Some kind → Marked line kind
-mark_from_kind [] kind e = absurd (let z : ◌≡◌ {A = ℕ} 0 1 = cc in omega arith)
-mark_from_kind (a ∷ []) kind e = absurd (let z : ◌≡◌ {A = ℕ} 0 1 = cc in omega arith)
+mark_from_kind [] kind e = absurd cc
+mark_from_kind (a ∷ []) kind e = absurd cc
 mark_from_kind (a ∷ (b ∷ rest)) kind e =
     ⊎_elim
     (λ t. (rest, ap (λ x. x ∷ (b ∷ rest)) (mark_of_kind a kind (sym (rw t.0) ∙ e)) ∙ ap (λ x. mark kind ∷ (x ∷ rest)) t.1))
-    (λ t. absurd (let z : None ≡ Some kind = sym (rw t.0) ∙ e in let y : ◌≡◌ {A = ℕ} 0 1 = cc in omega arith))
+    (λ t. absurd (let z : None ≡ Some kind = sym (rw t.0) ∙ e in cc))
     (eqb_tells b 58)
 
 -- ---- the kind of a line, by cases
@@ -118,7 +116,7 @@ sort : (line : List ℕ) → Sort line
 sort line = sort_by line (line_kind line) refl
 
 pub unmarked : (line : List ℕ) → line_kind line ≡ None → (kind : Kind) → Marked line kind → ⊥
-unmarked line e kind m = let k = kind_from_mark line kind m in let y : ◌≡◌ {A = ℕ} 0 1 = cc in omega arith
+unmarked line e kind m = let k = kind_from_mark line kind m in cc
 
 -- a line has one mark
 other_mark : (line : List ℕ) (a b : Kind) → line_kind line ≡ Some a → Marked line b → a ≡ b
@@ -127,10 +125,10 @@ other_mark line a b e m = let k = kind_from_mark line b m in cc
 worded_not_comment : (line : List ℕ) → line_kind line ≡ Some Comment → HasWords line → ⊥
 worded_not_comment line e w =
     ⊎_elim
-    (λ m. let k = kind_from_mark line Equation m in let y : ◌≡◌ {A = ℕ} 0 1 = cc in omega arith)
+    (λ m. let k = kind_from_mark line Equation m in cc)
     (⊎_elim
-    (λ m. let k = kind_from_mark line Fault m in let y : ◌≡◌ {A = ℕ} 0 1 = cc in omega arith)
-    (λ m. let k = kind_from_mark line Offer m in let y : ◌≡◌ {A = ℕ} 0 1 = cc in omega arith))
+    (λ m. let k = kind_from_mark line Fault m in cc)
+    (λ m. let k = kind_from_mark line Offer m in cc))
     w
 
 worded_marked : (line : List ℕ) → line_kind line ≡ None → HasWords line → ⊥
@@ -167,15 +165,11 @@ placed_rising n k [] h = tt
 placed_rising n k (p ∷ ps) h = (h, placed_rising k (k + length p + 1) ps (omega arith))
 
 words_rising : (line : List ℕ) → Rising 0 (words_of line)
-words_rising line =
-    ⊎_elim
-    (λ t. rw t.0 (⊎_elim (λ u. rw u.0 (placed_rising 0 3 (cut_at 32 ([] ∷ []) (drop 2 line)) (omega arith))) (λ u. rw u.0 tt) (leb_tells 2 (length line))))
-    (λ t. rw t.0 tt)
-    (leb_tells 3 (length line))
+words_rising line = words_either line (Rising 0) (placed_rising 0 3 (cut_at 32 ([] ∷ []) (drop 2 line)) (omega arith)) tt
 
 odd_names : (n : ℕ) (ws : List Word) → Rising n ws → Leftmost (odd_name ws) (OddName ws)
 odd_names n [] r = λ k p. omega (arith, p.1.1)
-odd_names n (w ∷ ws) r = by (odd_names w.start ws r.1) (is_name w.bytes) refl
+odd_names n (w ∷ ws) r = by (odd_names w.start ws r.1) (obeys_name_rule w.bytes) refl
   where
     more : (k : ℕ) → OddName ws k → OddName (w ∷ ws) k
     more k (v, a, s, o) = (v, (suc a.0, omega (arith, a.1), a.2), s, o)
@@ -184,11 +178,11 @@ odd_names n (w ∷ ws) r = by (odd_names w.start ws r.1) (is_name w.bytes) refl
     less named k (v, (zero, l, e), s, o) = absurd (o (subst (λ x. Name x.bytes) e named))
     less named k (v, (suc i, l, e), s, o) = (v, (i, omega arith, e), s, o)
 
-    by : Leftmost (odd_name ws) (OddName ws) → (b : Bool) → is_name w.bytes ≡ b → Leftmost (odd_name (w ∷ ws)) (OddName (w ∷ ws))
+    by : Leftmost (odd_name ws) (OddName ws) → (b : Bool) → obeys_name_rule w.bytes ≡ b → Leftmost (odd_name (w ∷ ws)) (OddName (w ∷ ws))
     by rest true e = rw e (leftmost_like (odd_name ws) (OddName ws) (OddName (w ∷ ws)) more (less ((name_decides w.bytes).0 e)) rest)
     by rest false e =
         rw e (
-          (w, (0, omega arith, refl), refl, λ named. let t = (name_decides w.bytes).1 named in let y : ◌≡◌ {A = ℕ} 0 1 = cc in omega arith),
+          (w, (0, omega arith, refl), refl, λ named. let t = (name_decides w.bytes).1 named in cc),
           λ j p. omega (arith, p.2, rising_least w.start (w ∷ ws) (omega arith, r.1) p.0 p.1),
         )
 

@@ -1,28 +1,12 @@
 -- Reading a line, ground by ground. Assumes nothing.
-use Rattle.std.proofs.Common.{◌≡◌, ℕ, ◌+◌, ◌<◌, ◌≤◌, true, false, cond, List, [], ◌∷◌, length, get_or, drop, Some, None, Ok, Err, sym, refl, ap, ◌∙◌, arith}
-use Rattle.std.proofs.lemmas.List.{nil_from_length, at_drop_more, at_drop_all}
+use Rattle.std.proofs.Common.{◌≡◌, ℕ, List, length, Some, None, Ok, Err}
+use Rattle.std.proofs.lemmas.List.{nil_from_length}
 use Rattle.grammar.specs.declared.grounds.Ground.TheVariants.{LineTooLong, ByteOutside, NoMark, NotAName, WordCount}
 use Rattle.grammar.specs.declared.marks.Kind.{Kind}
 use Rattle.grammar.specs.Marks.{line_kind}
-use Rattle.grammar.specs.Reading.{is_plain, odd_byte, stands, line_words, line_reading}
+use Rattle.grammar.specs.Reading.{stands, line_words, line_reading}
 use Rattle.grammar.specs.Refusals.{fault}
 use Rattle.grammar.specs.Words.{Word}
-
--- what is still to come has its first odd byte where the whole has it
-pub plain_more : (bs : List ℕ) (i : ℕ) → i < length bs → odd_byte (i + 1) (drop i bs) ≡ odd_byte 1 bs → true ≡ is_plain (get_or bs i 0) → odd_byte (i + 1 + 1) (drop (i + 1) bs) ≡ odd_byte 1 bs
-plain_more bs i h inv t = ap (λ v. cond v (odd_byte (i + 1 + 1) (drop (i + 1) bs)) (Some (i + 1))) t ∙ sym (at_drop_more (odd_byte (i + 1)) bs i 0 h) ∙ inv
-
-pub plain_fails : (bs : List ℕ) (i : ℕ) → i < length bs → odd_byte (i + 1) (drop i bs) ≡ odd_byte 1 bs → false ≡ is_plain (get_or bs i 0) → odd_byte 1 bs ≡ Some (i + 1)
-plain_fails bs i h inv t = sym inv ∙ at_drop_more (odd_byte (i + 1)) bs i 0 h ∙ sym (ap (λ v. cond v (odd_byte (i + 1 + 1) (drop (i + 1) bs)) (Some (i + 1))) t)
-
-pub plain_done : (bs : List ℕ) (i : ℕ) → length bs ≤ i → odd_byte (i + 1) (drop i bs) ≡ odd_byte 1 bs → odd_byte 1 bs ≡ None
-plain_done bs i h inv = sym inv ∙ at_drop_all (odd_byte (i + 1)) bs i h
-
--- one byte is no mark
-pub short_unmarked : (line : List ℕ) → length line < 2 → line_kind line ≡ None
-short_unmarked [] short = refl
-short_unmarked (a ∷ []) short = refl
-short_unmarked (a ∷ (b ∷ bs)) short = absurd (omega arith)
 
 -- ---- what the checks so far say of the whole
 

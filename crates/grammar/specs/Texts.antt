@@ -4,11 +4,11 @@ use Rattle.std.specs.List.{AllByRecursion, between}
 use Rattle.grammar.specs.Pieces.{cut_at}
 
 -- a line runs up to the next byte 10 or the end of the text; behind a last byte 10 there is none
-abbrev pub lines : List ℕ → List (List ℕ)
-lines text = cut_at 10 [] text
+abbrev pub text_lines : List ℕ → List (List ℕ)
+text_lines text = cut_at 10 [] text
 
 abbrev pub lines_from : List ℕ → ℕ → List (List ℕ)
-lines_from text from = lines (drop from text)
+lines_from text from = text_lines (drop from text)
 
 -- from p.0 to p.1 stands the first of the lines from an index on
 pub record FirstLine (text : List ℕ) (from : ℕ) (p : ℕ × ℕ) : Type 0 where

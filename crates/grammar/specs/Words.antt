@@ -1,5 +1,6 @@
 -- The words of a line, and which of them are names. Assumes nothing.
-use Rattle.std.specs.Prelude.{ℕ, ◌+◌, Bool, true, false, cond, ◌&&◌, ◌||◌, List, [], ◌∷◌, length, drop, Some, None, Option, ◌==◌, nat_le, nat_lt}
+use Rattle.std.specs.Prelude.{ℕ, ◌+◌, Bool, false, cond, ◌&&◌, ◌||◌, List, [], ◌∷◌, length, drop, Some, None, Option, ◌==◌, nat_le, nat_lt}
+use Rattle.std.specs.List.{list_all}
 use Rattle.grammar.specs.Pieces.{cut_at}
 
 -- a word, with the number of its first byte in the line, from 1
@@ -30,16 +31,12 @@ is_letter b = (nat_le 97 b && nat_le b 122) || (nat_le 65 b && nat_le b 90)
 abbrev pub is_name_byte : ℕ → Bool
 is_name_byte b = is_letter b || ((nat_le 48 b && nat_le b 57) || b == 95)
 
-abbrev pub all_name_bytes : List ℕ → Bool
-all_name_bytes [] = true
-all_name_bytes (b ∷ bs) = is_name_byte b && all_name_bytes bs
-
 -- a letter in front, then at most seven further name bytes
-abbrev pub is_name : List ℕ → Bool
-is_name [] = false
-is_name (b ∷ bs) = is_letter b && (nat_le (length bs) 7 && all_name_bytes bs)
+abbrev pub obeys_name_rule : List ℕ → Bool
+obeys_name_rule [] = false
+obeys_name_rule (b ∷ bs) = is_letter b && (nat_le (length bs) 7 && list_all is_name_byte bs)
 
 -- where the first word stands that is no name
 abbrev pub odd_name : List Word → Option ℕ
 odd_name [] = None
-odd_name (w ∷ ws) = cond (is_name w.bytes) (odd_name ws) (Some w.start)
+odd_name (w ∷ ws) = cond (obeys_name_rule w.bytes) (odd_name ws) (Some w.start)

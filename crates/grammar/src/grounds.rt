@@ -1,6 +1,6 @@
 //! The grounds on which a call is refused, and what a refused line or text is told.
 ghost use Rattle.std.specs.Prelude.{◌≡◌};
-ghost use Rattle.grammar.specs.Refusals.{ground_number};
+ghost use Rattle.grammar.specs.Refusals.{ground_number, fault};
 
 /// Every ground for a refusal. Its value is the number that a user is shown.
 #[derive(Clone, Copy, PartialEq, Eq, Debug)]
@@ -39,12 +39,12 @@ pub enum Ground {
     GoalNotMet = 16,
 }
 
-impl Ground {
-    /// The number under which this ground is reported.
-    pub fn number(self) -> u32
-        ensures { result ≡ ground_number self }
-    {
-        self as u32
+impl From<Ground> for u32 {
+    ghost from_gives = { λ g n. n ≡ ground_number g };
+
+    /// The number under which a ground is reported.
+    fn from(ground: Ground) -> u32 {
+        ground as u32
     }
 }
 
@@ -53,6 +53,15 @@ impl Ground {
 pub struct LineFault {
     pub reason: Ground,
     pub byte: usize,
+}
+
+impl From<Ground> for LineFault {
+    ghost from_gives = { λ g f. f ≡ fault g 0 };
+
+    /// The fault on a ground for which no byte is at fault.
+    fn from(reason: Ground) -> LineFault {
+        LineFault { reason, byte: 0 }
+    }
 }
 
 /// What a user is shown of a refused call: the ground, and the line and the byte at fault, both counted from 1, or 0.

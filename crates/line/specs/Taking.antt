@@ -4,7 +4,7 @@ use Rattle.std.specs.List.{between}
 use Rattle.grammar.specs.declared.grounds.Ground.TheVariants.{NotAName}
 use Rattle.grammar.specs.declared.grounds.LineFault.{LineFault}
 use Rattle.grammar.specs.Refusals.{fault}
-use Rattle.grammar.specs.Words.{word, words_from, is_name, odd_name}
+use Rattle.grammar.specs.Words.{word, words_from, obeys_name_rule, odd_name}
 
 -- from p.0 to p.1 stands the first of the words from an index on
 pub record FirstWord (line : List ℕ) (from : ℕ) (p : ℕ × ℕ) : Type 0 where
@@ -16,7 +16,7 @@ pub record FirstWord (line : List ℕ) (from : ℕ) (p : ℕ × ℕ) : Type 0 wh
 -- the first word from an index on, if there is one and it is a name
 pub record NamedWord (line : List ℕ) (from : ℕ) (p : ℕ × ℕ) : Type 0 where
   pub stands : FirstWord line from p
-  pub named : is_name (between from p.1 line) ≡ true
+  pub named : obeys_name_rule (between from p.1 line) ≡ true
 
 abbrev pub NextWord : List ℕ → ℕ → Result (Option (ℕ × ℕ)) LineFault → Type 0
 NextWord line from r =

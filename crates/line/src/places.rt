@@ -1,5 +1,6 @@
 //! Where the words of a line stand.
 ghost use Rattle.std.specs.Prelude.{◌≡◌, ◌+◌, ◌<◌, ◌≤◌, [], ◌∷◌, ◌++◌, length, take};
+ghost use Rattle.line.specs.declared.places.TheConstants.{MOST};
 
 /// One word's place: the indices of its first byte and of the byte after its last.
 #[derive(Clone, Copy)]
@@ -14,9 +15,10 @@ const MOST: usize = 119;
 /// The places of a line's words, from left to right.
 #[derive(Clone, Copy)]
 pub struct Places {
-    pub(crate) all: [Place; 119],
+    // Kept: reading a line takes no heap and a record is `Copy`, and no vector of the toolchain is, `ArrayVec` among them.
+    pub(crate) all: [Place; MOST],
     pub(crate) len: usize,
-    ghost within: { (len ≤ 119) × (length all ≡ 119) },
+    ghost within: { (len ≤ MOST) × (length all ≡ MOST) },
 }
 
 impl Places {
@@ -29,14 +31,14 @@ impl Places {
         }
     }
 
-    /// Notes where word number `index`, from 0, stands. Later words are forgotten.
-    pub(crate) fn put(&mut self, index: usize, start: usize, end: usize)
-        requires { index < 119 }
-        ensures places { take self.new.len self.new.all ≡ take index self.old.all ++ record { start = start; end = end } ∷ [] }
-        ensures len { self.new.len ≡ index + 1 }
+    /// Notes where one word more stands.
+    pub(crate) fn push(&mut self, place: Place)
+        requires { self.old.len < MOST }
+        ensures places { take self.new.len self.new.all ≡ take self.old.len self.old.all ++ place ∷ [] }
+        ensures len { self.new.len ≡ self.old.len + 1 }
     {
-        self.all[index] = Place { start, end };
-        self.len = index + 1;
+        self.all[self.len] = place;
+        self.len += 1;
     }
 
     /// The places, one for each word.

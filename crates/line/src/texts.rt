@@ -2,9 +2,10 @@
 ghost use Rattle.std.specs.Prelude.{◌≡◌, ◌-◌, ◌<◌, ◌≤◌, [], length, MatchOption, MatchResult};
 ghost use Rattle.grammar.specs.declared.grounds.Ground.TheVariants.{TextTooLong};
 ghost use Rattle.grammar.specs.Refusals.{fault};
-ghost use Rattle.grammar.specs.Texts.{lines, lines_from, CutIntoLines, FirstLine, LineStep};
+ghost use Rattle.grammar.specs.Texts.{text_lines, lines_from, CutIntoLines, FirstLine, LineStep};
 ghost use Rattle.std.specs.Iterator.{at_most};
 
+use crate::lengths::no_more_than;
 use crate::words::until;
 use grammar::grounds::{Ground, LineFault};
 
@@ -12,13 +13,7 @@ use grammar::grounds::{Ground, LineFault};
 pub fn text_fits(text: &[u8]) -> Result<(), LineFault>
     ensures { MatchResult result (λ _. length text.now ≤ 32768) (λ f. (f ≡ fault TextTooLong 0) × (32768 < length text.now)) }
 {
-    if text.len() > 32768 {
-        return Err(LineFault {
-            reason: Ground::TextTooLong,
-            byte: 0,
-        });
-    }
-    Ok(())
+    no_more_than(text, 32768, Ground::TextTooLong)
 }
 
 /// The line that begins at an index of the text, as the indices of its first byte and of the byte after its last; none from
@@ -43,7 +38,7 @@ impl<'a> Lines<'a> {
     /// All lines of a text.
     pub fn of(text: &'a [u8]) -> Lines<'a>
         ensures left { (result.text.now ≡ text.now) × (result.from ≡ 0) }
-        ensures splits { CutIntoLines text.now (lines text.now) }
+        ensures splits { CutIntoLines text.now (text_lines text.now) }
     {
         Lines { text, from: 0 }
     }
@@ -57,12 +52,8 @@ impl<'a> Iterator for Lines<'a> {
     ghost next_gives = { λ s r t. LineStep s.text.now s.from r t.text.now t.from };
 
     fn next(&mut self) -> Option<(usize, usize)> {
-        match line_at(self.text, self.from) {
-            None => None,
-            Some((start, end)) => {
-                self.from = end + 1;
-                Some((start, end))
-            }
-        }
+        let (start, end) = line_at(self.text, self.from)?;
+        self.from = end + 1;
+        Some((start, end))
     }
 }

@@ -1,15 +1,18 @@
 //! The words of a line, taken one after the other.
-ghost use Rattle.std.specs.Prelude.{◌≡◌, ℕ, ◌+◌, ◌-◌, ◌<◌, ◌≤◌, length, MatchOption, ◌≢◌, slice_index};
+ghost use Rattle.std.specs.Prelude.{◌≡◌, ◌+◌, ◌-◌, ◌<◌, ◌≤◌, length, MatchOption};
+ghost use Rattle.std.specs.List.{list_all};
 ghost use Rattle.std.specs.Iterator.{at_most};
 ghost use Rattle.line.specs.Taking.{FirstWord, NextWord, WordStep};
-ghost use Rattle.grammar.specs.Words.{is_letter, is_name_byte, all_name_bytes, is_name, word, words_from, words_of};
+ghost use Rattle.grammar.specs.Pieces.{Front};
+ghost use Rattle.grammar.specs.Words.{is_letter, is_name_byte, obeys_name_rule, word, words_from, words_of};
 
+use crate::marked::MarkedLine;
 use grammar::grounds::{Ground, LineFault};
 
 fn is_letter(b: u8) -> bool
     ensures { result ≡ is_letter b }
 {
-    matches!(b, b'a'..=b'z' | b'A'..=b'Z')
+    b.is_ascii_alphabetic()
 }
 
 fn is_name_byte(b: u8) -> bool
@@ -20,32 +23,23 @@ fn is_name_byte(b: u8) -> bool
 
 /// The index of the first separator, or the length where there is none.
 pub(crate) fn until(bytes: &[u8], separator: u8) -> usize
-    ensures within { result ≤ length bytes.now }
-    ensures before { (k : ℕ) → k < result → slice_index bytes.now k ≢ separator }
-    ensures found { result < length bytes.now → slice_index bytes.now result ≡ separator }
+    ensures { Front separator result bytes.now }
 {
-    for (i, b) in bytes.iter().enumerate() {
-        if *b == separator {
-            return i;
-        }
-    }
-    bytes.len()
+    bytes
+        .iter()
+        .position(|b| *b == separator)
+        .unwrap_or(bytes.len())
 }
 
 fn all_name_bytes(bytes: &[u8]) -> bool
-    ensures { result ≡ all_name_bytes bytes.now }
+    ensures { result ≡ list_all is_name_byte bytes.now }
 {
-    for b in bytes {
-        if !is_name_byte(*b) {
-            return false;
-        }
-    }
-    true
+    bytes.iter().all(|b| is_name_byte(*b))
 }
 
 /// Whether a word obeys the rule for names.
 fn is_name(word: &[u8]) -> bool
-    ensures { result ≡ is_name word.now }
+    ensures { result ≡ obeys_name_rule word.now }
 {
     let [first, rest @ ..] = word else {
         return false;
@@ -58,6 +52,7 @@ fn is_name(word: &[u8]) -> bool
 pub fn word_at(line: &[u8], from: usize) -> Option<(usize, usize)>
     ensures { MatchOption result (length line.now < from) (FirstWord line.now from) }
 {
+    // Kept: a next-word call answers a tuple of plain numbers, and so do `next_word`, `line_at` and the iterators over them.
     if from > line.len() {
         return None;
     }
@@ -86,13 +81,14 @@ pub fn next_word(line: &[u8], from: usize) -> Result<Option<(usize, usize)>, Lin
 pub(crate) struct Words<'a> {
     pub(crate) line: &'a [u8],
     pub(crate) from: usize,
+    ghost short: { length line.now ≤ 240 },
 }
 
 impl<'a> Words<'a> {
-    pub(crate) fn of(line: &'a [u8]) -> Words<'a>
-        requires { (2 ≤ length line.now) × (length line.now ≤ 240) }
-        ensures { (result.line.now ≡ line.now) × (2 ≤ result.from) × (result.from ≤ 241) × (words_from result.line.now result.from ≡ words_of line.now) }
+    pub(crate) fn of(marked: MarkedLine<'a>) -> Words<'a>
+        ensures { (result.line.now ≡ marked.entry.line.now) × (2 ≤ result.from) × (words_from result.line.now result.from ≡ words_of marked.entry.line.now) }
     {
+        let line = marked.line;
         let from = if line.len() > 2 { 2 } else { line.len() + 1 };
         Words { line, from }
     }
@@ -101,24 +97,17 @@ impl<'a> Words<'a> {
 impl<'a> Iterator for Words<'a> {
     type Item = Result<(usize, usize), LineFault>;
 
-    ghost can_next = { λ s. length s.line.now ≤ 240 };
-
     ghost remaining = { λ s. at_most ((length s.line.now + 1) - s.from) };
 
     ghost next_gives = { λ s r t. WordStep s.line.now s.from r t.line.now t.from };
 
     fn next(&mut self) -> Option<Result<(usize, usize), LineFault>> {
         let line = self.line;
-        match next_word(line, self.from) {
-            Ok(None) => None,
-            Ok(Some((start, end))) => {
-                self.from = end + 1;
-                Some(Ok((start, end)))
-            }
-            Err(fault) => {
-                self.from = line.len() + 1;
-                Some(Err(fault))
-            }
-        }
+        let word = next_word(line, self.from).transpose()?;
+        self.from = match word {
+            Ok((_, end)) => end + 1,
+            Err(_) => line.len() + 1,
+        };
+        Some(word)
     }
 }

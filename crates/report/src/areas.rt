@@ -8,6 +8,7 @@ pub(crate) fn put(area: &mut [u8], at: usize, bytes: &[u8]) -> usize
     ensures after { area.new ≡ overwritten at bytes.now area.old }
     ensures value { result ≡ at + length bytes.now }
 {
+    // Kept: report lines are written into lent areas of bytes, so a piece has an index there and no buffer of its own.
     let end = at + bytes.len();
     area[at..end].copy_from_slice(bytes);
     end

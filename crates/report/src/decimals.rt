@@ -5,6 +5,7 @@ ghost use Rattle.report.specs.Numerals.{WritesNumber};
 /// The digits of a number, at the end of ten places: a 32-bit number has no more.
 #[derive(Clone, Copy)]
 pub struct Decimal {
+    // Kept: digits take no heap and a `Decimal` is `Copy`, and no vector of the toolchain is, `ArrayVec` among them.
     pub(crate) places: [u8; 10],
     pub(crate) start: usize,
     ghost within: { (start ≤ 9) × (length places ≡ 10) },
@@ -17,15 +18,15 @@ impl Decimal {
         ensures reads { WritesNumber n (drop result.start result.places) }
     {
         let mut places = [b'0'; 10];
-        let mut start = 9;
-        places[9] = b'0' + (n % 10) as u8;
-        let mut rest = n / 10;
-        while rest > 0 {
-            start -= 1;
+        let mut rest = n;
+        for start in (0..10).rev() {
             places[start] = b'0' + (rest % 10) as u8;
             rest /= 10;
+            if rest == 0 {
+                return Decimal { places, start };
+            }
         }
-        Decimal { places, start }
+        unreachable!()
     }
 
     /// The digits as bytes.

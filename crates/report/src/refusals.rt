@@ -9,7 +9,7 @@ use grammar::grounds::{Ground, Refusal};
 pub fn x_line(refusal: Refusal, area: &mut [u8]) -> Result<usize, Refusal>
     ensures { Fills (x_line refusal) area.old result area.new }
 {
-    let number = Decimal::of(refusal.reason.number());
+    let number = Decimal::of(u32::from(refusal.reason));
     let line = Decimal::of(refusal.line);
     let byte = Decimal::of(refusal.byte);
     let number = number.as_slice();

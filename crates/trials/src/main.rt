@@ -3,6 +3,7 @@
 
 mod cases;
 mod limits;
+mod outcomes;
 mod writing;
 
 use line::texts::Lines;

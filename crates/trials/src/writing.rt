@@ -1,4 +1,5 @@
 //! Decimal numbers and the line of a refusal.
+use crate::outcomes::Written;
 use grammar::grounds::{Ground, Refusal};
 use report::decimals::Decimal;
 use report::refusals::x_line;
@@ -11,24 +12,16 @@ fn show_number(rt: &HostRuntime, n: u32) -> io::Result<()> {
     rt.stdout().write_all(b"\n")
 }
 
-/// The length of a refusal's line and no ground, or 0 and the ground on which it was not written.
-fn line_outcome(area: &mut [u8]) -> (usize, u32) {
+/// Writes the line of a refusal into an area of points, and shows all of the area.
+fn show_area(rt: &HostRuntime, area: &mut [u8]) -> io::Result<()> {
     let refusal = Refusal {
         reason: Ground::GoalNotMet,
         line: 32768,
         byte: 241,
     };
-    match x_line(refusal, area) {
-        Ok(length) => (length, 0),
-        Err(e) => (0, e.reason.number()),
-    }
-}
-
-/// Writes the line of a refusal into an area of points, and shows all of the area.
-fn show_area(rt: &HostRuntime, area: &mut [u8]) -> io::Result<()> {
-    let outcome = line_outcome(area);
+    let outcome = Written(x_line(refusal, area));
     rt.stdout().write_all(area)?;
-    println!(rt; "{outcome:?}")
+    println!(rt; "{outcome}")
 }
 
 /// Numbers of one to ten digits; areas with more room than the line takes, with just enough, and with one byte too few.

@@ -3,7 +3,4 @@ use Rattle.account.proofs.Sofar.{Sofar}
 use Rattle.account.proofs.checking.check_text.Given as goal
 
 abbrev pub invariant-loop-index : goal.invariant-loop-index
-invariant-loop-index l =
-    (goal.iterator-loop-index).can_next l.index-iterator ×
-    (goal.iterator-loop-index).is_finite l.index-iterator ×
-    Sofar l.text (enumerate_source l.index-iterator).text.now (enumerate_source l.index-iterator).from (enumerate_count l.index-iterator) l.account
+invariant-loop-index l = (goal.iterator-loop-index).is_finite l.index-iterator × Sofar l.text (enumerate_source l.index-iterator) (enumerate_count l.index-iterator) l.account

@@ -1,18 +1,12 @@
-use Rattle.std.proofs.Common.{refl, ap, arith, length-drop}
-use Rattle.std.proofs.lemmas.List.{drop_all}
-use Rattle.grammar.specs.Texts.{lines}
+use Rattle.std.proofs.Common.{refl, arith, length-drop}
 use Rattle.grammar.proofs.Splits.{front_from, lines_next}
 use Rattle.line.proofs.texts.line_at.Goals as goal
-
-pub returns-then-from-text : goal.returns-then-from-text
-returns-then-from-text c = ap lines (drop_all c.args.from c.args.text.now (omega arith))
 
 pub returns : goal.returns
 returns c =
     let text = c.args.text.now in
     let from = c.args.from in
-    let told = c.until.ensures in
-    let front = front_from 10 c.until.result from text (record { within = told.within; before = told.before; found = told.found }) in
+    let front = front_from 10 c.until.result from text c.until.ensures in
     record {
       inside = omega arith;
       starts = refl;

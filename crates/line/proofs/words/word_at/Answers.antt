@@ -6,8 +6,7 @@ pub returns : goal.returns
 returns c =
     let line = c.args.line.now in
     let from = c.args.from in
-    let told = c.until.ensures in
-    let front = front_from 32 c.until.result from line (record { within = told.within; before = told.before; found = told.found }) in
+    let front = front_from 32 c.until.result from line c.until.ensures in
     record {
       starts = refl;
       forward = omega arith;

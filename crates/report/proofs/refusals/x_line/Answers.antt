@@ -1,4 +1,4 @@
-use Rattle.std.proofs.Common.{◌≡◌, ◌<◌, ◌≤◌, [], ◌∷◌, ◌++◌, length, drop, decimal, refl, ap, ◌∙◌, subst, append_assoc, arith}
+use Rattle.std.proofs.Common.{◌≡◌, ◌≤◌, [], ◌∷◌, ◌++◌, length, drop, decimal, ap, ◌∙◌, subst, append_assoc, arith}
 use Rattle.report.specs.Lines.{x_line}
 use Rattle.report.proofs.Pieces.{nothing_yet, piece_on, parted, x_line_parts, parted_length, line_stands}
 use Rattle.report.proofs.refusals.x_line.Goals as goal
@@ -8,16 +8,9 @@ use Rattle.report.proofs.refusals.x_line.Goals.{After-as_slice-byte}
 numbers : (c : After-as_slice-byte) → parted c.as_slice-number.result.now c.as_slice-line.result.now c.as_slice-byte.result.now ≡ x_line c.args.refusal
 numbers c =
     x_line_parts c.args.refusal _ _ _
-    (c.as_slice-number.ensures.value ∙ c.of-number.ensures.value ∙ ap decimal c.number.ensures)
+    (c.as_slice-number.ensures.value ∙ c.of-number.ensures.value ∙ ap decimal c.from.ensures)
     (c.as_slice-line.ensures.value ∙ c.of-line.ensures.value)
     (c.as_slice-byte.ensures.value ∙ c.of-byte.ensures.value)
-
-pub returns-then-area-number : goal.returns-then-area-number
-returns-then-area-number c =
-    let e = numbers (goal.at.returns-then-area-number c).After-as_slice-byte in
-    let long = parted_length c.as_slice-number.result.now c.as_slice-line.result.now c.as_slice-byte.result.now in
-    let short : length c.args.area.now < length (parted c.as_slice-number.result.now c.as_slice-line.result.now c.as_slice-byte.result.now) = omega (arith, long, c.if-area-number.true) in
-    (refl, subst (λ l. length c.args.area.now < length l) e short, refl)
 
 pub returns : goal.returns
 returns c =

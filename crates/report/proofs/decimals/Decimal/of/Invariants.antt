@@ -1,8 +1,5 @@
 use Rattle.report.proofs.Digits.{Written}
 use Rattle.report.proofs.decimals.Decimal.of.Given as goal
 
-abbrev pub invariant-loop-rest : goal.invariant-loop-rest
-invariant-loop-rest l = Written l.n l.rest l.start l.places
-
-abbrev pub decreases-loop-rest : goal.decreases-loop-rest
-decreases-loop-rest l = l.rest
+abbrev pub invariant-loop-start : goal.invariant-loop-start
+invariant-loop-start l = Written l.n l.rest l.start l.places
