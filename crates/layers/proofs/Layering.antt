@@ -1,27 +1,15 @@
 -- Layers: sensors one by one, and a source read the other way. Assumes nothing.
-use Rattle.std.proofs.Common.{◌≡◌, ℕ, suc, ◌+◌, ◌-◌, ◌<◌, ◌≤◌, Bool, true, false, cond, ◌&&◌, eqb, ltb, List, [], ◌∷◌, ◌++◌, length, get_or, is_some, Some, None, sym, refl, ap, ◌∙◌, ⊎_elim, arith, length-append}
+use Rattle.std.proofs.Common.{◌≡◌, ℕ, ◌+◌, ◌-◌, ◌<◌, Bool, true, false, cond, ◌&&◌, eqb, ltb, List, [], ◌∷◌, ◌++◌, length, get_or, is_some, Some, None, sym, refl, ap, ◌∙◌, ⊎_elim, arith, length-append}
 use Rattle.std.specs.List.{filter, range_with_len}
 use Rattle.std.proofs.lemmas.List.{get_or_past, get_or_append_left, get_or-append_right}
-use Rattle.std.proofs.lemmas.Bool.{cases_lt, cases_order, eq-eqb, lt-ltb}
+use Rattle.std.proofs.lemmas.Bool.{cases_order, eq-eqb, lt-ltb}
 use Rattle.std.proofs.lemmas.Bool.Decides.{nat_tests}
 use Rattle.sets.specs.Counting.{one_of, how_many}
 use Rattle.source.specs.Growth.{with_row}
 use Rattle.layers.specs.Layers.{with_sensors, sensed, transpose_of, only}
 use Rattle.source.specs.Meaning.{Meaning, WithinLimits, pair_count, pairs_to}
-use Rattle.source.proofs.Asking.{none_outside, same_meaning}
+use Rattle.source.proofs.Asking.{same_meaning}
 use Rattle.source.proofs.Sums.{how_many_one, pairs_to_same, pairs_to-range, pairs_swapped}
-
-none_after : (M : Meaning) → WithinLimits M → (i j : ℕ) → M.m < i → M.holds i j ≡ false
-none_after M b i j h = none_outside M b i j (grind (arith, nat_tests))
-
-pub no_sensors : (M : Meaning) → WithinLimits M → with_sensors M [] ≡ M
-no_sensors M b =
-    same_meaning (with_sensors M []) M (omega (arith, b.few_equations)) refl
-    (λ i j.
-    ⊎_elim
-    (λ (l : i < suc M.m). grind (arith, nat_tests))
-    (λ (l : suc M.m ≤ i). let z = none_after M b i j l in let p = get_or_past {X = ℕ} [] (i - M.m - 1) 0 (omega arith) in grind (arith, nat_tests))
-    (cases_lt i (suc M.m)))
 
 get_or_last : (xs : List ℕ) (x k : ℕ) → get_or (xs ++ x ∷ []) k 0 ≡ cond (eqb k (length xs)) x (get_or xs k 0)
 get_or_last xs x k =

@@ -22,9 +22,6 @@ pub members_asked : (n i : ℕ) → 1 ≤ i → i ≤ 128 → eqb (bit_and (n / 
 unfolding member_of
 members_asked n i a b = let m : bit_and (n / 2 ^ (i - 1)) 1 ≡ n / 2 ^ (i - 1) % 2 = and_mask (n / 2 ^ (i - 1)) 1 in grind (arith, nat_tests)
 
-same_place : (e i : ℕ) → 1 ≤ e → 1 ≤ i → eqb (e - 1) (i - 1) ≡ eqb i e
-same_place e i a b = grind (arith, nat_tests)
-
 pub members_or : (n e i : ℕ) → 1 ≤ e → e ≤ 128 → member_of (bit_or n (2 ^ (e - 1))) i ≡ and_also (member_of n) e i
 unfolding member_of
 members_or n e i a b =

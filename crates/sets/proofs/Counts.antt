@@ -1,7 +1,6 @@
 -- Counting: with, without and among the bits. Assumes nothing.
 use Rattle.std.proofs.Common.{◌≡◌, ℕ, zero, suc, ◌-◌, ◌/◌, ◌%◌, ◌^◌, ◌<◌, ◌≤◌, cond, sym, ap, ◌∙◌, mod-eq_of_lt, arith}
 use lib.Count.{ones}
-use Rattle.std.proofs.lemmas.Nat.{ones-le}
 use Rattle.std.proofs.lemmas.Bool.Decides.{nat_tests}
 use Rattle.sets.specs.Counting.{how_many}
 use Rattle.sets.specs.Members.{member_of}
@@ -21,6 +20,3 @@ low_counted n (suc k) h = ones_more n k ∙ omega (arith, low_counted n k (omega
 
 pub bits_counted : (n : ℕ) → n < 2 ^ 128 → ones n ≡ how_many 128 (member_of n)
 bits_counted n f = ap ones (sym (mod-eq_of_lt f)) ∙ low_counted n 128 (omega arith)
-
-pub ones_short : (n : ℕ) → n < 2 ^ 128 → ones n < 2 ^ 64
-ones_short n f = omega (arith, ones-le 128 n f)

@@ -1,6 +1,6 @@
 -- What an answer has to be, from what a source stands for. Assumes nothing.
 use Rattle.std.proofs.Common.{◌≡◌, ℕ, suc, ◌+◌, ◌<◌, ◌≤◌, true, false, Option, Some, None, MatchOption, refl, ⊎_elim, arith}
-use Rattle.std.proofs.lemmas.Bool.{cases_Bool, cases_lt, both_ways}
+use Rattle.std.proofs.lemmas.Bool.{cases_Bool, cases_lt}
 use Rattle.std.proofs.lemmas.Bool.Decides.{nat_tests}
 use Rattle.sets.specs.Members.{Lowest}
 use Rattle.source.specs.Meaning.{Meaning, WithinLimits, numbered, NextUnknown}
@@ -16,13 +16,6 @@ none_past M b i k h =
     (λ (e : M.holds i k ≡ true). let w = b.within i k e in grind (arith, nat_tests))
     (λ (e : M.holds i k ≡ false). e)
     (cases_Bool (M.holds i k))
-
-pub none_outside : (M : Meaning) → WithinLimits M → (i j : ℕ) → numbered M i j ≡ false → M.holds i j ≡ false
-none_outside M b i j h =
-    ⊎_elim (λ (e : M.holds i j ≡ true). absurd (both_ways _ h (b.within i j e))) (λ (e : M.holds i j ≡ false). e) (cases_Bool (M.holds i j))
-
-pub next_zero : (M : Meaning) (i : ℕ) → NextUnknown M i 0 None
-next_zero M i = record { outside = λ _. refl; lowest = λ h. absurd (grind (arith, nat_tests)) }
 
 pub next_found : (M : Meaning) → WithinLimits M → (i j x : ℕ) → 1 ≤ j → Lowest (M.holds i) j x → NextUnknown M i j (Some x)
 next_found M b i j x p l =

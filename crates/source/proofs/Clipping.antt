@@ -1,10 +1,10 @@
 -- Sources that stand for a relation cut down to their numbers: what additions make of it. Assumes nothing.
-use Rattle.std.proofs.Common.{◌≡◌, ℕ, ◌+◌, ◌-◌, ◌<◌, ◌≤◌, Bool, true, false, cond, ◌&&◌, eqb, List, [], ◌∷◌, ◌++◌, length, get_or, set, sym, refl, ap, ◌∙◌, subst, ⊎_elim, arith}
-use Rattle.std.proofs.lemmas.List.{get_or-set_same, get_or-set_other, get_or_append_left, get_or_at, length_push}
-use Rattle.std.proofs.lemmas.Bool.{cases_eq, eq-eqb, ne_eqb, cond-true, cond-false}
+use Rattle.std.proofs.Common.{◌≡◌, ℕ, ◌+◌, ◌-◌, ◌<◌, ◌≤◌, Bool, true, false, cond, ◌&&◌, eqb, List, [], ◌∷◌, ◌++◌, length, get_or, sym, refl, ap, ◌∙◌, subst, ⊎_elim, arith}
+use Rattle.std.proofs.lemmas.List.{get_or_append_left, get_or_at, length_push}
+use Rattle.std.proofs.lemmas.Bool.{cases_eq, eq-eqb, ne_eqb}
 use Rattle.std.proofs.lemmas.Bool.Decides.{nat_tests}
 use Rattle.sets.specs.Counting.{one_of, how_many}
-use Rattle.source.specs.Growth.{vacant, with_column, with_row}
+use Rattle.source.specs.Growth.{with_row}
 use Rattle.source.specs.Meaning.{clipped, pairs_to}
 use Rattle.source.proofs.Asking.{same_meaning}
 use Rattle.source.proofs.Sums.{how_many_same, how_many_more, pairs_to_step}
@@ -14,18 +14,11 @@ pub clip_kept : (m n i j : ℕ) (b : Bool) → 1 ≤ i → i ≤ m → (b ≡ tr
 clip_kept m n i j true p q h = let o = h refl in grind (arith, nat_tests)
 clip_kept m n i j false p q h = grind (arith, nat_tests)
 
-pub clip_empty : (f : ℕ → ℕ → Bool) → clipped 0 0 f ≡ vacant
-clip_empty f = same_meaning (clipped 0 0 f) vacant refl refl (λ i j. grind (arith, nat_tests))
-
 -- a new last row
 pub clip_row : (m n : ℕ) (f h : ℕ → ℕ → Bool) (S : ℕ → Bool) → ((j : ℕ) → S j ≡ true → one_of n j ≡ true)
     → ((i j : ℕ) → 1 ≤ i → i ≤ m + 1 → 1 ≤ j → j ≤ n → h i j ≡ cond (eqb i (m + 1)) (S j) (f i j)) → clipped (m + 1) n h ≡ with_row (clipped m n f) S
 clip_row m n f h S w e =
     same_meaning (clipped (m + 1) n h) (with_row (clipped m n f) S) refl refl (λ i j. let p = e i j in let q = w j in grind (arith, nat_tests))
-
--- a new last column, where no row reaches it
-pub clip_column : (m n : ℕ) (f : ℕ → ℕ → Bool) → ((i j : ℕ) → 1 ≤ i → i ≤ m → f i j ≡ true → j ≤ n) → clipped m (n + 1) f ≡ with_column (clipped m n f)
-clip_column m n f w = same_meaning (clipped m (n + 1) f) (with_column (clipped m n f)) refl refl (λ i j. let p = w i j in grind (arith, nat_tests))
 
 -- one row more counted, where it keeps to the unknowns
 pub clip_counted : (m n k : ℕ) (f : ℕ → ℕ → Bool) → k < m → n ≤ 128 → ((j : ℕ) → f (k + 1) j ≡ true → one_of n j ≡ true)
@@ -36,36 +29,6 @@ clip_counted m n k f h l w =
     how_many_same n ((clipped m n f).holds (k + 1)) (f (k + 1)) (λ j p q. sym (clip_kept m n (k + 1) j (f (k + 1) j) (omega arith) (omega arith) (w j))) in
     let r : how_many (n + (128 - n)) (f (k + 1)) ≡ how_many n (f (k + 1)) = how_many_more (128 - n) n (f (k + 1)) (λ j e. let o = w j e in grind (arith, nat_tests)) in
     pairs_to_step (clipped m n f) k ∙ ap (λ x. pairs_to (clipped m n f) k + x) (s ∙ sym r ∙ ap (λ x. how_many x (f (k + 1))) a)
-
--- one place of a list written
-pub set_at : {X : Type 0} (xs : List X) (e k : ℕ) (x d : X) → e < length xs → get_or (set xs e x) k d ≡ cond (eqb k e) x (get_or xs k d)
-set_at xs e k x d l =
-    ⊎_elim
-    (λ (q : k ≡ e). rw (eq-eqb k e q) (ap (λ i. get_or (set xs e x) i d) q ∙ get_or-set_same xs e x d l))
-    (λ (q : k ≡ e → ⊥). rw (ne_eqb k e q) (get_or-set_other xs e k x d q))
-    (cases_eq k e)
-
--- One row of a source written, where `read` says which unknowns a row holds: row e + 1 is the new one, and the others are as they were.
-pub row_written : {X : Type 0} (read : X → ℕ → Bool) (rows : List X) (e : ℕ) (x d : X) → e < length rows → (i j : ℕ) → 1 ≤ i
-    → read (get_or (set rows e x) (i - 1) d) j ≡ cond (eqb i (e + 1)) (read x j) (read (get_or rows (i - 1) d) j)
-row_written read rows e x d l i j p =
-    ⊎_elim
-    (λ (q : i ≡ e + 1).
-    let s : i - 1 ≡ e = omega arith in
-    rw (eq-eqb i (e + 1) q) (ap (λ r. read r j) (set_at rows e (i - 1) x d l ∙ cond-true _ _ _ (eq-eqb (i - 1) e s))))
-    (λ (q : i ≡ e + 1 → ⊥).
-    let s : i - 1 ≡ e → ⊥ = λ z. q (omega arith) in
-    rw (ne_eqb i (e + 1) q) (ap (λ r. read r j) (set_at rows e (i - 1) x d l ∙ cond-false _ _ _ (ne_eqb (i - 1) e s))))
-    (cases_eq i (e + 1))
-
--- what is true of each row, and of one more that is written behind them
-pub rows_keep : {X : Type 0} (Q : X → Type 0) (rows : List X) (e : ℕ) (x d : X) → e < length rows → Q x → ((i : ℕ) → i < e → Q (get_or rows i d))
-    → (i : ℕ) → i < e + 1 → Q (get_or (set rows e x) i d)
-rows_keep Q rows e x d l new old i h =
-    ⊎_elim
-    (λ (q : i ≡ e). subst Q (sym (set_at rows e i x d l ∙ cond-true _ _ _ (eq-eqb i e q))) new)
-    (λ (q : i ≡ e → ⊥). subst Q (sym (set_at rows e i x d l ∙ cond-false _ _ _ (ne_eqb i e q))) (old i (omega arith)))
-    (cases_eq i e)
 
 -- One row of a source appended, where `read` says which unknowns a row holds: the last row is the new one, and the others are as they were.
 row_appended : {X : Type 0} (read : X → ℕ → Bool) (rows : List X) (x d : X) (i j : ℕ) → 1 ≤ i → i ≤ length rows + 1

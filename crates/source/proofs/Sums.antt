@@ -22,10 +22,6 @@ pub pairs_to_none : (M : Meaning) → pairs_to M 0 ≡ 0
 unfolding pairs_to sum_over
 pairs_to_none M = refl
 
-pub how_many_none : (S : ℕ → Bool) → how_many 0 S ≡ 0
-unfolding how_many
-how_many_none S = refl
-
 pub sum_over_none : (f : ℕ → ℕ) → sum_over 0 f ≡ 0
 unfolding sum_over
 sum_over_none f = refl
