@@ -54,7 +54,8 @@ impl Growing for Table {
 
     ghost ROOM = { 1024 };
 
-    // Kept: `clear` and `add_unknown` read alike in the three sources. A shared form is no plainer: it needs a trait that lends `unknowns` of each.
+    // Kept: `clear` and `add_unknown` read alike in the three sources. A shared form is no plainer: it needs a trait that lends `unknowns` of each. And a
+    // generic source over kinds of rows would leave this example of a source of one's own with nothing to show.
     fn clear(&mut self) {
         self.rows.clear();
         self.unknowns = 0;
