@@ -2,6 +2,8 @@
 ghost use Rattle.std.specs.Prelude.{◌≡◌, ◌≤◌, length, drop, decimal};
 ghost use Rattle.report.specs.Numerals.{WritesNumber};
 
+use itoa::write_digits;
+
 /// The digits of a number, at the end of ten places: a 32-bit number has no more.
 #[derive(Clone, Copy)]
 pub struct Decimal {
@@ -18,15 +20,8 @@ impl Decimal {
         ensures reads { WritesNumber n (drop result.start result.places) }
     {
         let mut places = [b'0'; 10];
-        let mut rest = n;
-        for start in (0..10).rev() {
-            places[start] = b'0' + (rest % 10) as u8;
-            rest /= 10;
-            if rest == 0 {
-                return Decimal { places, start };
-            }
-        }
-        unreachable!()
+        let start = write_digits(n.into(), &mut places, 10);
+        Decimal { places, start }
     }
 
     /// The digits as bytes.

@@ -1,16 +1,13 @@
-use Rattle.std.proofs.Common.{◌≡◌, arith}
-use Rattle.report.proofs.Digits.{last_digit, next_digit, places_left, writes_number}
+use Rattle.std.proofs.Common.{decimal, ap, ◌∙◌, append-nil, arith}
+use Rattle.std.proofs.lemmas.Fmt.{decimal_nonempty, length-decimal-le}
+use Rattle.report.proofs.Digits.{writes_number}
 use Rattle.report.proofs.decimals.Decimal.of.Goals as goal
 
-pub returns-then-rest-eq0 : goal.returns-then-rest-eq0
-returns-then-rest-eq0 c =
-    let v = last_digit c.args.n c.loop-start.rest c.loop-start.start c.loop-start.places c.loop-start.invariant c.loop-start-test.true c.loop-start.auto.start c.if-rest-eq0.true in
-    record { value = v; reads = writes_number c.args.n _ (omega arith) v }
+pub write_digits-start-requires : goal.write_digits-start-requires
+write_digits-start-requires c = (length-decimal-le 10 c.into.result (omega arith) (omega arith) (omega arith), omega arith)
 
-pub loop-start-preserved : goal.loop-start-preserved
-loop-start-preserved c = next_digit c.args.n c.loop-start.rest c.loop-start.start c.loop-start.places c.loop-start.invariant c.loop-start-test.true c.loop-start.auto.start (omega arith)
+pub invariant_of-result : goal.invariant_of-result
+invariant_of-result c = record { within = (omega (arith, decimal_nonempty c.into.result (omega arith)), let a = c.write_digits-start.auto.buf in omega arith) }
 
-pub unreachable-requires : goal.unreachable-requires
-unreachable-requires c =
-    let none : c.loop-start.start ≡ 0 = omega arith in
-    places_left c.args.n c.loop-start.rest c.loop-start.places (omega arith) (rw none at c.loop-start.invariant)
+pub returns-clause-reads : goal.returns-clause-reads
+returns-clause-reads c = writes_number c.args.n _ (omega arith) (c.write_digits-start.ensures.written ∙ append-nil (decimal c.into.result) ∙ ap decimal c.into.ensures)
