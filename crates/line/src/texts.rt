@@ -21,6 +21,7 @@ pub fn text_fits(text: &[u8]) -> Result<(), LineFault>
 pub fn line_at(text: &[u8], from: usize) -> Option<(usize, usize)>
     ensures { MatchOption result (lines_from text.now from ≡ []) (FirstLine text.now from) }
 {
+    // Kept: no plainer as one function with `word_at`: both are a test and `until`, and the tests differ in whether an empty piece stands at the end.
     if from >= text.len() {
         return None;
     }
