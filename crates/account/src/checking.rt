@@ -36,6 +36,7 @@ fn in_line(line: u32, fault: LineFault) -> Refusal
     requires { fault.byte ≤ 241 }
     ensures { result ≡ in_line line fault }
 {
+    // Kept: no `From`, since a fault does not know the number of its line.
     Refusal {
         reason: fault.reason,
         line,

@@ -11,6 +11,7 @@ use std::io::{Read, Write};
 const MOST: u64 = 32769;
 
 fn print_refusal(rt: &HostRuntime, refusal: Refusal) -> anyhow::Result<()> {
+    // Kept: the report line is written into an area that is lent for it.
     let mut area = [0u8; 32];
     let Ok(length) = x_line(refusal, &mut area) else {
         bail!("the area is too short for the line");

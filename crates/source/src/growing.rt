@@ -15,6 +15,7 @@ pub const MOST_EQUATIONS: usize = 112;
 pub const MOST_UNKNOWNS: usize = 128;
 
 /// Whether a source with room for `room` pairs can take up `more` of them.
+// Kept: source and room stay two parameters here and below, since the rule is asked of any source and any room, and a growing source would be more to ask for.
 pub fn has_room<S: Source>(source: &S, room: usize, more: usize) -> bool
     ensures { result ≡ has_room room (S.Source.means source.now) more }
 {

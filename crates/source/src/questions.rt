@@ -19,6 +19,7 @@ pub trait Source {
         ensures { result ≡ (means self.now).n };
 
     /// Whether the equation holds the unknown; false for 0 and past the end.
+    // Kept: no plainer as one value of two numbers, since callers have an equation's number and an unknown's from different places.
     fn holds(&self, equation: usize, unknown: usize) -> bool
         ensures { result ≡ (means self.now).holds equation unknown };
 

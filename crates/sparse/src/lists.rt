@@ -10,6 +10,7 @@ use source::growing::MOST_EQUATIONS;
 /// that of equation `i` from place `starts[i - 1]` on and up to the start of the next list, or to the end of the cells.
 #[derive(Drop)]
 pub struct Sparse {
+    // Kept: the lists share one store of cells, since 1,024 of them are the stated budget of the source, in fixed memory.
     pub(crate) cells: ArrayVec<u8, 1024>,
     pub(crate) starts: ArrayVec<usize, MOST_EQUATIONS>,
     pub(crate) unknowns: usize,
