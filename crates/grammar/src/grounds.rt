@@ -69,6 +69,20 @@ impl From<Ground> for LineFault {
 #[derive(Clone, Copy, PartialEq, Eq, Debug)]
 pub struct Refusal {
     pub reason: Ground,
+    // Kept: no plainer as `Option`s, since this is what is shown, and 0 is shown where no line or no byte is at fault.
     pub line: u32,
     pub byte: u32,
+}
+
+impl From<Ground> for Refusal {
+    ghost from_gives = { λ g r. r ≡ record { reason = g; line = 0; byte = 0 } };
+
+    /// The refusal on a ground for which no line is at fault.
+    fn from(reason: Ground) -> Refusal {
+        Refusal {
+            reason,
+            line: 0,
+            byte: 0,
+        }
+    }
 }

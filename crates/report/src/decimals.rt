@@ -1,35 +1,32 @@
 //! The decimal digits of a number: the one place where report lines get them from.
-ghost use Rattle.std.specs.Prelude.{◌≡◌, ◌≤◌, length, drop, decimal};
+ghost use Rattle.std.specs.Prelude.{◌≡◌, ◌≤◌, length, decimal};
 ghost use Rattle.report.specs.Numerals.{WritesNumber};
 
-use itoa::write_digits;
+use arrayvec::ArrayString;
+use itoa::Buffer;
 
-/// The digits of a number, at the end of ten places: a 32-bit number has no more.
+/// The digits of a number: a 32-bit number has at most ten.
 #[derive(Clone, Copy)]
 pub struct Decimal {
-    // Kept: digits take no heap and a `Decimal` is `Copy`, and no vector of the toolchain is, `ArrayVec` among them.
-    pub(crate) places: [u8; 10],
-    pub(crate) start: usize,
-    ghost within: { (start ≤ 9) × (length places ≡ 10) },
+    pub(crate) digits: ArrayString<10>,
 }
 
 impl Decimal {
     /// The digits of a number, the highest first, with no zero in front.
     pub fn of(n: u32) -> Decimal
-        ensures value { drop result.start result.places ≡ decimal n }
-        ensures reads { WritesNumber n (drop result.start result.places) }
+        ensures value { result.digits.bytes ≡ decimal n }
+        ensures reads { WritesNumber n result.digits.bytes }
     {
-        let mut places = [b'0'; 10];
-        let start = write_digits(n.into(), &mut places, 10);
-        Decimal { places, start }
+        let mut digits = ArrayString::new();
+        digits.push_str(Buffer::new().format(n));
+        Decimal { digits }
     }
 
     /// The digits as bytes.
     pub fn as_slice(&self) -> &[u8]
-        ensures value { result.now ≡ drop self.now.start self.now.places }
+        ensures value { result.now ≡ self.now.digits.bytes }
         ensures bound { length result.now ≤ 10 }
     {
-        let start = self.start;
-        &self.places[start..]
+        self.digits.as_bytes()
     }
 }

@@ -16,12 +16,7 @@ pub fn x_line(refusal: Refusal, area: &mut [u8]) -> Result<usize, Refusal>
     let line = line.as_slice();
     let byte = byte.as_slice();
     if area.len() < number.len() + line.len() + byte.len() + 5 {
-        // Kept: no plainer in another form, since line and byte of a refusal are shown as 0 where there is none.
-        return Err(Refusal {
-            reason: Ground::AreaTooShort,
-            line: 0,
-            byte: 0,
-        });
+        return Err(Refusal::from(Ground::AreaTooShort));
     }
     // Kept: a lent area that is too short stays as it was, and `write!` promises nothing of when it succeeds.
     let at = put(area, 0, b"X:");

@@ -14,9 +14,9 @@ pub enum SourceFault {
 }
 
 impl From<SourceFault> for u32 {
-    /// The number of the refusal.
     ghost from_gives = { λ fault n. n ≡ fault_number fault };
 
+    /// The number of the refusal.
     fn from(fault: SourceFault) -> u32 {
         fault as u32
     }

@@ -51,10 +51,10 @@ pub fn admits_equation<S: Source>(
     if !has_room(source, room, unknowns.len()) {
         return Err(SourceFault::Room);
     }
-    match unknowns.next_from(source.unknowns() + 1) {
-        Some(_) => Err(SourceFault::NoSuchUnknown),
-        None => Ok(()),
+    if unknowns.next_from(source.unknowns() + 1).is_some() {
+        return Err(SourceFault::NoSuchUnknown);
     }
+    Ok(())
 }
 
 /// A source that can be added to.

@@ -29,6 +29,7 @@ pub trait Source {
     {
         let unknowns = self.unknowns();
         let mut pairs = 0;
+        // Kept: tried as `map` and `sum`, but the proof did not close, since a call of the closure does not show what the chain in it counts.
         for i in 1..self.equations() + 1 {
             pairs += (1..unknowns + 1).filter(|&j| self.holds(i, j)).count();
         }

@@ -25,7 +25,7 @@ impl fmt::Display for Answer {
 
 fn print_row<S: Source>(rt: &HostRuntime, source: &S, equation: usize) -> io::Result<()> {
     print!(rt; "  {equation}:")?;
-    // Kept: no plainer as a `for`, since this tries `next`, and each call says where the following one begins.
+    // Kept: this tries `next`, where each answer says from where to ask on; over `iter::successors`, which has no end of its own, no proof could tell that a `for` ends.
     let mut from = 1;
     while let Some(unknown) = source.next(equation, from) {
         print!(rt; " {unknown}")?;
@@ -36,6 +36,7 @@ fn print_row<S: Source>(rt: &HostRuntime, source: &S, equation: usize) -> io::Re
 
 /// A line with the numbers of equations, unknowns and pairs, then a line for each equation with its unknowns.
 pub(crate) fn print_source<S: Source>(rt: &HostRuntime, name: &str, source: &S) -> io::Result<()> {
+    // Kept: no plainer as a `Display`, since lines are printed while the source is asked.
     let equations = source.equations();
     let unknowns = source.unknowns();
     let pairs = source.pairs();

@@ -54,8 +54,8 @@ impl Growing for Table {
 
     ghost ROOM = { 1024 };
 
-    // Kept: `clear` and `add_unknown` read alike in the three sources. A shared form is no plainer: it needs a trait that lends `unknowns` of each. And a
-    // generic source over kinds of rows would leave this example of a source of one's own with nothing to show.
+    // Kept: `clear` and `add_unknown` read alike in the three sources. A shared form is no plainer: it needs a trait that lends `unknowns` of each. And the
+    // table is no instance of one source over kinds of rows, by the rule that an example of a source of one's own is written from nothing but the traits.
     fn clear(&mut self) {
         self.rows.clear();
         self.unknowns = 0;
