@@ -1,9 +1,9 @@
 -- The rule for adding an equation says what its grounds say. Assumes nothing.
-use Rattle.std.proofs.Common.{◌≡◌, ℕ, suc, ◌+◌, ◌-◌, ◌<◌, ◌≤◌, Bool, true, false, cond, ◌&&◌, ltb, leb, Some, None, Decides, refl, ⊎_elim, arith}
+use Rattle.std.proofs.Common.{◌≡◌, ℕ, suc, ◌+◌, ◌-◌, ◌<◌, ◌≤◌, Bool, true, false, cond, ◌&&◌, ltb, leb, Some, None, is_some, Option, Decides, refl, ⊎_elim, arith}
 use Rattle.std.proofs.lemmas.Bool.{leb-true, leb-false, lt-ltb, ltb-true, and_parts, cases_Bool, cases_lt, and_from, both_ways}
 use Rattle.std.proofs.lemmas.Bool.Decides.{Decides-below_or, nat_tests}
 use Rattle.sets.specs.Counting.{one_of, how_many}
-use Rattle.sets.specs.Members.{member_of}
+use Rattle.sets.specs.Members.{member_of, FirstFrom}
 use Rattle.sets.proofs.Bitwise.{members_few, members_one_of}
 use Rattle.source.specs.declared.faults.SourceFault.TheVariants.{Limit, Room, NoSuchUnknown}
 use Rattle.source.specs.Faults.{fault_number}
@@ -34,6 +34,11 @@ passes_none n S h =
     (λ (e : reaches_past n S ≡ true). let s = passes_some n S e in absurd (both_ways (S s.0) (h s.0 s.2) s.1))
     (λ (e : reaches_past n S ≡ false). e)
     (cases_Bool (reaches_past n S))
+
+-- whether a set has a number above n, by its first one there
+pub passes_first : (n : ℕ) (S : ℕ → Bool) (r : Option ℕ) → ((j : ℕ) → S j ≡ true → j ≤ 128) → FirstFrom S (n + 1) r → reaches_past n S ≡ is_some r
+passes_first n S None w h = passes_none n S (λ j l. h j (omega arith))
+passes_first n S (Some x) w h = passes_by n x S h.in_it (omega (arith, h.from)) (w x h.in_it)
 
 lowest : (room : ℕ) (M : Meaning) (S : ℕ → Bool) (full fits past : Bool) → leb 112 M.m ≡ full → has_room room M (how_many 128 S) ≡ fits
     → reaches_past M.n S ≡ past → ((j : ℕ) → S j ≡ true → j ≤ 128)
