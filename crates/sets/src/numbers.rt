@@ -1,6 +1,6 @@
 //! Sets of numbers from 1 to 128, kept as bits.
-ghost use Rattle.std.specs.Prelude.{◌≡◌, ℕ, true, false, Decides};
-ghost use Rattle.sets.specs.Counting.{how_many};
+ghost use Rattle.std.specs.Prelude.{◌≡◌, ℕ, ◌-◌, ◌^◌, ◌<◌, true, false, Decides, MatchOption};
+ghost use Rattle.sets.specs.Counting.{one_of, how_many};
 ghost use Rattle.sets.specs.Members.{member_of, and_also, all_but, PartOf, FirstFrom, InWords};
 
 use std::marker::{Model, PhantomData};
@@ -20,7 +20,7 @@ pub struct Numbers<K> {
 
 /// Clauses see a set as the number that its bits make.
 impl<K> Model for Numbers<K> {
-    ghost use Rattle.std.specs.Prelude.{ℕ};
+    ghost use Rattle.std.specs.Prelude.{ℕ, ◌^◌, ◌<◌};
     ghost use Rattle.std.specs.Coded.{coded_ℕ};
 
     ghost Value = { ℕ };
@@ -28,6 +28,8 @@ impl<K> Model for Numbers<K> {
     ghost coded = { coded_ℕ };
 
     ghost view = { λ s. s.bits };
+
+    ghost invariant = { λ s. s.bits < 2 ^ 128 };
 
     ghost inverse = { λ bits. record { bits = bits; kind = record {} } };
 }
@@ -41,17 +43,14 @@ pub type UnknownSet = Numbers<Unknown>;
 /// The highest number that a set can hold.
 pub const HIGHEST: usize = 128;
 
-/// Whether the bit that stands for `number` is 1.
-fn has_bit(bits: u128, number: usize) -> bool
-    ensures { result ≡ member_of bits number }
+/// The bit that stands for `number`; none for 0, or a number above 128.
+fn bit_of(number: usize) -> Option<u128>
+    ensures { MatchOption result (one_of 128 number ≡ false) (λ bit. (one_of 128 number ≡ true) × (bit ≡ 2 ^ (number - 1))) }
 {
-    if number == 0 {
-        return false;
-    }
     if number > HIGHEST {
-        return false;
+        return None;
     }
-    (bits >> (number - 1)) & 1 == 1
+    Some(1 << number.checked_sub(1)?)
 }
 
 impl<K> Numbers<K> {
@@ -76,32 +75,30 @@ impl<K> Numbers<K> {
     pub fn holds(self, number: usize) -> bool
         ensures { result ≡ member_of self number }
     {
-        has_bit(self.bits, number)
+        let Some(bit) = bit_of(number) else {
+            return false;
+        };
+        self.bits & bit != 0
     }
 
     /// The set with `number` in it. With 0, or a number above 128, it is the set as it was.
     pub fn with(self, number: usize) -> Self
         ensures { (i : ℕ) → member_of result i ≡ and_also (member_of self) number i }
     {
-        if number == 0 {
+        let Some(bit) = bit_of(number) else {
             return self;
-        }
-        if number > HIGHEST {
-            return self;
-        }
-        Self::from_bits(self.bits | (1 << (number - 1)))
+        };
+        Self::from_bits(self.bits | bit)
     }
 
     /// The set without `number`.
     pub fn without(self, number: usize) -> Self
         ensures { (i : ℕ) → member_of result i ≡ all_but (member_of self) number i }
     {
-        let bits = self.bits;
-        if has_bit(bits, number) {
-            Self::from_bits(bits ^ (1 << (number - 1)))
-        } else {
-            Self::from_bits(bits)
-        }
+        let Some(bit) = bit_of(number) else {
+            return self;
+        };
+        Self::from_bits(self.bits & !bit)
     }
 
     /// How many numbers the set holds.

@@ -3,7 +3,8 @@ use Rattle.std.proofs.lemmas.Nat.{shr_le}
 use Rattle.std.proofs.lemmas.Bool.Decides.{nat_tests}
 use Rattle.sets.specs.Members.{member_of}
 use Rattle.sets.proofs.Bitwise.{none_from, first_from}
-use Rattle.sets.proofs.Digits.{trailing_bits}
+use Rattle.std.proofs.lemmas.Nat.Bits.{bit_at-trailing_zeros}
+use mir.Syntax.{w128}
 use Rattle.sets.proofs.numbers.Numbers.next_from.Goals as goal
 
 pub returns-then-number-gt-HIGHEST : goal.returns-then-number-gt-HIGHEST
@@ -21,5 +22,5 @@ returns g c =
     let s : c.saturating_sub-below.result ≡ c.args.number - 1 = c.saturating_sub-below.ensures in
     let l = shr_le n (c.args.number - 1) in
     let nz = rw s at c.if-rest-eq0.false in
-    let t = trailing_bits 128 (n / 2 ^ (c.args.number - 1)) (omega arith) (omega arith) in
+    let t = bit_at-trailing_zeros w128 (n / 2 ^ (c.args.number - 1)) (omega arith) (omega arith) in
     rw (← c.self.view_is) (simp s (first_from n c.args.number _ _ (omega arith) t (omega arith)))

@@ -1,11 +1,11 @@
-use Rattle.std.proofs.Common.{◌-◌, arith}
-use Rattle.std.proofs.lemmas.Nat.{one_shl}
+use Rattle.std.proofs.Common.{ap, ◌∙◌}
+use lib.Bits.{bit_or}
+use Rattle.sets.specs.Members.{member_of}
 use Rattle.sets.proofs.Bitwise.{members_or}
 use Rattle.sets.proofs.numbers.Numbers.with.Goals as goal
 
 pub returns : goal.returns
 returns g c i =
-    let e = c.from_bits.ensures in
-    let o = one_shl (c.args.number - 1) 128 (omega arith) in
-    let m = members_or c.args.self c.args.number i (omega arith) (omega arith) in
-    cc
+    let o = c.in-Some.ensures in
+    let m = members_or c.self.inside.bits c.args.number i o.0 in
+    rw (← c.self.view_is) (ap (λ n. member_of n i) (c.from_bits.ensures ∙ ap (bit_or c.self.inside.bits) o.1) ∙ m)
