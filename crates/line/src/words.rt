@@ -79,30 +79,30 @@ pub fn next_word(line: &[u8], from: usize) -> Result<Option<(usize, usize)>, Lin
 /// The words after a line's mark, one after the other, up to the first that is no name.
 #[derive(Drop)]
 pub(crate) struct Words<'a> {
-    pub(crate) line: &'a [u8],
+    pub(crate) marked: MarkedLine<'a>,
+    // Kept: no plainer as an `Option`, since a word is asked for by an index, and past the end of the line there is none.
     pub(crate) from: usize,
-    ghost short: { length line.now ≤ 240 },
 }
 
 impl<'a> Words<'a> {
     pub(crate) fn of(marked: MarkedLine<'a>) -> Words<'a>
-        ensures { (result.line.now ≡ marked.entry.line.now) × (2 ≤ result.from) × (words_from result.line.now result.from ≡ words_of marked.entry.line.now) }
+        ensures { (result.marked ≡ marked.entry) × (2 ≤ result.from) × (words_from marked.entry.line.now result.from ≡ words_of marked.entry.line.now) }
     {
-        let line = marked.line;
-        let from = if line.len() > 2 { 2 } else { line.len() + 1 };
-        Words { line, from }
+        let len = marked.line.len();
+        let from = if len > 2 { 2 } else { len + 1 };
+        Words { marked, from }
     }
 }
 
 impl<'a> Iterator for Words<'a> {
     type Item = Result<(usize, usize), LineFault>;
 
-    ghost remaining = { λ s. at_most ((length s.line.now + 1) - s.from) };
+    ghost remaining = { λ s. at_most ((length s.marked.line.now + 1) - s.from) };
 
-    ghost next_gives = { λ s r t. WordStep s.line.now s.from r t.line.now t.from };
+    ghost next_gives = { λ s r t. WordStep s.marked.line.now s.from r t.marked.line.now t.from };
 
     fn next(&mut self) -> Option<Result<(usize, usize), LineFault>> {
-        let line = self.line;
+        let line = self.marked.line;
         let word = next_word(line, self.from).transpose()?;
         self.from = match word {
             Ok((_, end)) => end + 1,

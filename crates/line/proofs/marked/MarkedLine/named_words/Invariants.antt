@@ -7,7 +7,7 @@ use Rattle.line.proofs.marked.MarkedLine.named_words.Given as goal
 
 -- the places are of the words so far, all of them names, and the others are left
 pub record Walked (line : List ℕ) (left : Words) (places : Places) : Type 0 where
-  pub same : left.line.now ≡ line
+  pub same : left.marked.line.now ≡ line
   pub far : 2 + 2 * places.len ≤ left.from
   pub words : words_in line places ++ words_from line left.from ≡ words_of line
   pub named : odd_name (words_from line left.from) ≡ odd_name (words_of line)
