@@ -50,6 +50,7 @@ impl<'a> MarkedLine<'a> {
         let mut places = Places::none();
         for word in Words::of(self) {
             let (start, end) = word?;
+            // Kept: no `From`, since a pair of numbers does not say which is the start.
             places.push(Place { start, end });
         }
         Ok(places)
