@@ -52,7 +52,7 @@ impl From<Ground> for u32 {
 #[derive(Clone, Copy, PartialEq, Eq, Debug)]
 pub struct LineFault {
     pub reason: Ground,
-    // Kept: no plainer as an `Option`, since reports show 0 where no byte is at fault, and the leftmost place is found by comparing numbers.
+    // Kept: no plainer as an `Option`, since reports show 0 where no byte is at fault, and the law of the leftmost place compares numbers.
     pub byte: usize,
 }
 

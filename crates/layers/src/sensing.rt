@@ -8,8 +8,8 @@ use arrayvec::ArrayVec;
 use source::faults::SourceFault;
 use source::questions::Source;
 
-/// The most equations that a source has.
-const MOST_EQUATIONS: usize = 128;
+/// The most equations that a source has, growing or not.
+const MOST_OF_ANY_SOURCE: usize = 128;
 
 impl<S: Source> Sensors<S> {
     /// The source, with no sensor yet.
@@ -28,7 +28,7 @@ impl<S: Source> Sensors<S> {
     pub fn add(&mut self, unknown: usize) -> Result<(), SourceFault>
         ensures { AddsSensor S.Source.means self.old unknown self.new result }
     {
-        if self.on.is_full() || self.equations() >= MOST_EQUATIONS {
+        if self.on.is_full() || self.equations() >= MOST_OF_ANY_SOURCE {
             return Err(SourceFault::Limit);
         }
         if unknown == 0 || unknown > self.unknowns() {
@@ -45,7 +45,7 @@ impl<S: Source> Sensors<S> {
         let unknown = *self
             .on
             .get(equation.checked_sub(self.below.equations() + 1)?)?;
-        let is_held = equation <= MOST_EQUATIONS && unknown != 0 && unknown <= self.unknowns();
+        let is_held = equation <= MOST_OF_ANY_SOURCE && unknown != 0 && unknown <= self.unknowns();
         is_held.then_some(unknown)
     }
 }
@@ -56,7 +56,7 @@ impl<S: Source> Source for Sensors<S> {
     ghost bounded = { λ s. sensors_bounded (S.Source.means s.below) (S.Source.bounded s.below) (sensors_of s) };
 
     fn equations(&self) -> usize {
-        (self.below.equations() + self.on.len()).min(MOST_EQUATIONS)
+        (self.below.equations() + self.on.len()).min(MOST_OF_ANY_SOURCE)
     }
 
     fn unknowns(&self) -> usize {

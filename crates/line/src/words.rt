@@ -18,7 +18,7 @@ fn is_letter(b: u8) -> bool
 fn is_name_byte(b: u8) -> bool
     ensures { result ≡ is_name_byte b }
 {
-    is_letter(b) || matches!(b, b'0'..=b'9' | b'_')
+    b.is_ascii_alphanumeric() || b == b'_'
 }
 
 /// The index of the first separator, or the length where there is none.

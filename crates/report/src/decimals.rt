@@ -1,5 +1,6 @@
 //! The decimal digits of a number: the one place where report lines get them from.
 ghost use Rattle.std.specs.Prelude.{◌≡◌, ◌≤◌, length, decimal};
+ghost use Rattle.arrayvec.specs.ArrayString.{array_string_len};
 ghost use Rattle.report.specs.Numerals.{WritesNumber};
 
 use arrayvec::ArrayString;
@@ -9,6 +10,7 @@ use itoa::Buffer;
 #[derive(Clone, Copy)]
 pub struct Decimal {
     pub(crate) digits: ArrayString<10>,
+    ghost some: { 1 ≤ array_string_len digits },
 }
 
 impl Decimal {

@@ -19,11 +19,8 @@ pub const MOST_UNKNOWNS: usize = 128;
 pub fn has_room<S: Source>(source: &S, room: usize, more: usize) -> bool
     ensures { result ≡ has_room room (S.Source.means source.now) more }
 {
-    let pairs = source.pairs();
-    if pairs > room {
-        return false;
-    }
-    more <= room - pairs
+    room.checked_sub(source.pairs())
+        .is_some_and(|left| more <= left)
 }
 
 /// Whether an unknown can be added, by the rule for every growing source.

@@ -25,7 +25,7 @@ impl fmt::Display for Answer {
 
 fn print_row<S: Source>(rt: &HostRuntime, source: &S, equation: usize) -> io::Result<()> {
     print!(rt; "  {equation}:")?;
-    // Kept: this tries `next`, where each answer says from where to ask on; over `iter::successors`, which has no end of its own, no proof could tell that a `for` ends.
+    // Kept: this tries `next`, where each answer says from where to ask on. Tried as a `for` over `iter::successors`, but the proof did not close.
     let mut from = 1;
     while let Some(unknown) = source.next(equation, from) {
         print!(rt; " {unknown}")?;
