@@ -5,7 +5,7 @@ ghost use Rattle.source.specs.Growth.{vacant};
 ghost use Rattle.dense.specs.Rows.{dense_means, dense_bounded};
 
 use crate::rows::Dense;
-use arrayvec::ArrayVec;
+use fixed::lists::FixedList;
 use sets::numbers::UnknownSet;
 use source::faults::SourceFault;
 use source::growing::{Growing, admits_equation, admits_unknown};
@@ -17,16 +17,16 @@ impl Dense {
         ensures { dense_means result ≡ vacant }
     {
         Dense {
-            rows: ArrayVec::new(),
+            rows: FixedList::new(UnknownSet::empty()),
             unknowns: 0,
         }
     }
 
     /// The row of an equation; none for a number that does not exist.
     fn row(&self, equation: usize) -> Option<UnknownSet>
-        ensures { MatchOption result ((j : ℕ) → (dense_means self.now).holds equation j ≡ false) (λ row. (j : ℕ) → (dense_means self.now).holds equation j ≡ member_of row j) }
+        ensures { MatchOption result ((j : ℕ) → (dense_means self.now).holds equation j ≡ false) (λ row. (j : ℕ) → (dense_means self.now).holds equation j ≡ member_of row.bits j) }
     {
-        self.rows.get(equation.checked_sub(1)?).copied()
+        self.rows.as_slice().get(equation.checked_sub(1)?).copied()
     }
 }
 
@@ -48,7 +48,7 @@ impl Source for Dense {
     }
 
     fn pairs(&self) -> usize {
-        self.rows.iter().map(|row| row.len()).sum()
+        self.rows.as_slice().iter().map(|row| row.len()).sum()
     }
 
     fn next(&self, equation: usize, unknown: usize) -> Option<usize> {

@@ -18,7 +18,7 @@ pub struct Places {
     // Kept: reading a line takes no heap and a record is `Copy`, and no vector of the toolchain is, `ArrayVec` among them.
     pub(crate) all: [Place; MOST],
     pub(crate) len: usize,
-    ghost within: { (len ≤ MOST) × (length all ≡ MOST) },
+    ghost within: { (len ≤ 119) × (length all ≡ 119) },
 }
 
 impl Places {

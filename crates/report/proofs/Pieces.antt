@@ -1,6 +1,6 @@
 -- A line written piece by piece at the front of an area. Assumes nothing.
-use Rattle.std.proofs.Common.{◌≡◌, ℕ, ◌+◌, List, [], ◌∷◌, ◌++◌, length, drop, decimal, sym, refl, ap, ◌∙◌, append_assoc, arith, length-append, drop-drop}
-use Rattle.std.proofs.lemmas.List.{take_at, drop_at}
+use Rattle.std.proofs.Common.{◌≡◌, ℕ, ◌+◌, ◌≤◌, List, [], ◌∷◌, ◌++◌, length, take, drop, decimal, sym, refl, ap, ◌∙◌, append_assoc, arith, length-append, length-drop, drop-drop}
+use Rattle.std.proofs.lemmas.List.{take_all, take_at, drop_at}
 use Rattle.grammar.specs.declared.grounds.Refusal.{Refusal}
 use Rattle.grammar.specs.Refusals.{ground_number}
 use Rattle.report.specs.Lines.{x_line, overwritten}
@@ -39,3 +39,7 @@ parted_length a b c = simp length-append (omega arith)
 -- the pieces t that were written are the line l
 pub line_stands : (t l xs : List ℕ) (i : ℕ) (area : List ℕ) → Fronted t xs i area → t ≡ l → (i ≡ length l) × (area ≡ l ++ drop (length l) xs)
 line_stands t l xs i area f e = (f.next ∙ ap length e, f.stands ∙ ap (λ k. k ++ drop (length k) xs) e)
+
+-- what lies from an index on, cut no shorter
+pub to_the_end : (xs : List ℕ) (i k : ℕ) → length xs ≤ i + k → take k (drop i xs) ≡ drop i xs
+to_the_end xs i k h = take_all k (drop i xs) (omega (arith, length-drop i xs))

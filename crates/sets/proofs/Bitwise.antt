@@ -1,11 +1,11 @@
 -- What the operations on bits do to the set that they stand for. Assumes nothing.
-use Rattle.std.proofs.Common.{◌≡◌, ℕ, zero, suc, ◌+◌, ◌-◌, ◌*◌, ◌/◌, ◌%◌, ◌^◌, ◌<◌, ◌≤◌, Bool, true, false, not, eqb, Decides, sym, refl, ap, ◌∙◌, ⊎_elim, lt_of_le_of_lt, arith, shr-shr, pow_pos}
-use lib.Bits.{bit_and, bit_or, and_le_l}
+use Rattle.std.proofs.Common.{◌≡◌, ℕ, zero, suc, ◌+◌, ◌-◌, ◌*◌, ◌/◌, ◌%◌, ◌^◌, ◌<◌, ◌≤◌, Bool, true, false, eqb, Decides, sym, refl, ap, ◌∙◌, ⊎_elim, lt_of_le_of_lt, arith, shr-shr}
+use lib.Bits.{bit_and, bit_or, and_mask, and_le_l}
 use lib.Pow.{pow-lt, high, low}
 use mir.Syntax.{w128}
 use Rattle.std.proofs.lemmas.Bool.{cases_lt, eq-eqb, eqb-true}
 use Rattle.std.proofs.lemmas.Bool.Decides.{nat_tests}
-use Rattle.std.proofs.lemmas.Nat.Bits.{bit_at_and, bit_at_or, bit_at_not, bit_at-zero, bit_at_above, bit_at_cat_low, and_pow, same_from_bits_below}
+use Rattle.std.proofs.lemmas.Nat.Bits.{bit_at_and, bit_at_or, bit_at_not, bit_at-zero, bit_at_above, bit_at_cat_low, same_from_bits_below}
 use Rattle.sets.specs.Counting.{one_of}
 use Rattle.sets.specs.Members.{member_of, and_also, all_but, PartOf, Lowest, InWords}
 use Rattle.sets.proofs.Digits.{bit_cases, pow_bit}
@@ -28,16 +28,10 @@ pub without_none : (n e i : ℕ) → one_of 128 e ≡ false → member_of n i �
 unfolding member_of
 without_none n e i h = grind (arith, nat_tests)
 
--- the bit of e, as code asks for it
-pub members_tested : (n e : ℕ) → one_of 128 e ≡ true → not (eqb (bit_and n (2 ^ (e - 1))) 0) ≡ member_of n e
+-- one bit, as code asks for it
+pub members_asked : (n i : ℕ) → 1 ≤ i → i ≤ 128 → eqb (bit_and (n / 2 ^ (i - 1)) 1) 1 ≡ member_of n i
 unfolding member_of
-members_tested n e o =
-    let a = and_pow n (e - 1) in
-    let p = pow_pos (e - 1) in
-    ⊎_elim
-    (λ (z : n / 2 ^ (e - 1) % 2 ≡ 0). let none : bit_and n (2 ^ (e - 1)) ≡ 0 = a ∙ ap (λ d. d * 2 ^ (e - 1)) z ∙ omega arith in grind (arith, nat_tests))
-    (λ (z : n / 2 ^ (e - 1) % 2 ≡ 1). let one : bit_and n (2 ^ (e - 1)) ≡ 2 ^ (e - 1) = a ∙ ap (λ d. d * 2 ^ (e - 1)) z ∙ omega arith in grind (arith, nat_tests))
-    (bit_cases (n / 2 ^ (e - 1)))
+members_asked n i a b = let m : bit_and (n / 2 ^ (i - 1)) 1 ≡ n / 2 ^ (i - 1) % 2 = and_mask (n / 2 ^ (i - 1)) 1 in grind (arith, nat_tests)
 
 pub members_or : (n e i : ℕ) → one_of 128 e ≡ true → member_of (bit_or n (2 ^ (e - 1))) i ≡ and_also (member_of n) e i
 unfolding member_of

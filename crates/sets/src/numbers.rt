@@ -1,9 +1,9 @@
 //! Sets of numbers from 1 to 128, kept as bits.
-ghost use Rattle.std.specs.Prelude.{◌≡◌, ℕ, ◌-◌, ◌^◌, ◌<◌, true, false, Decides, MatchOption};
+ghost use Rattle.std.specs.Prelude.{◌≡◌, ℕ, ◌-◌, ◌^◌, true, false, Decides, MatchOption};
 ghost use Rattle.sets.specs.Counting.{one_of, how_many};
 ghost use Rattle.sets.specs.Members.{member_of, and_also, all_but, PartOf, FirstFrom, InWords};
 
-use std::marker::{Model, PhantomData};
+use std::marker::PhantomData;
 
 /// Marks a set as one of equations.
 pub enum Equation {}
@@ -14,24 +14,9 @@ pub enum Unknown {}
 /// A set of numbers from 1 to 128. Bit `i - 1` of `bits` stands for the number `i`, and `K` says what is numbered.
 #[derive_where(Clone, Copy, Default, PartialEq, Eq)]
 pub struct Numbers<K> {
+    // Kept: clauses name the bits. Tried as an `impl Model`, but then a value that holds a set, such as a `Change`, got no proof where it is copied.
     bits: u128,
     kind: PhantomData<K>,
-}
-
-/// Clauses see a set as the number that its bits make.
-impl<K> Model for Numbers<K> {
-    ghost use Rattle.std.specs.Prelude.{ℕ, ◌^◌, ◌<◌};
-    ghost use Rattle.std.specs.Coded.{coded_ℕ};
-
-    ghost Value = { ℕ };
-
-    ghost coded = { coded_ℕ };
-
-    ghost view = { λ s. s.bits };
-
-    ghost invariant = { λ s. s.bits < 2 ^ 128 };
-
-    ghost inverse = { λ bits. record { bits = bits; kind = record {} } };
 }
 
 /// A set of equations, by their numbers.
@@ -56,7 +41,7 @@ fn bit_of(number: usize) -> Option<u128>
 impl<K> Numbers<K> {
     /// The set of these bits.
     fn from_bits(bits: u128) -> Self
-        ensures { result ≡ bits }
+        ensures { result.bits ≡ bits }
     {
         Numbers {
             bits,
@@ -66,24 +51,28 @@ impl<K> Numbers<K> {
 
     /// The set that holds nothing.
     pub fn empty() -> Self
-        ensures { (i : ℕ) → member_of result i ≡ false }
+        ensures { (i : ℕ) → member_of result.bits i ≡ false }
     {
         Self::from_bits(0)
     }
 
     /// Whether the set holds `number`. It never holds 0, or a number above 128.
     pub fn holds(self, number: usize) -> bool
-        ensures { result ≡ member_of self number }
+        ensures { result ≡ member_of self.bits number }
     {
-        let Some(bit) = bit_of(number) else {
+        // Kept: tried by `bit_of`, which took half as long again on the rows of a source.
+        let Some(place) = number.checked_sub(1) else {
             return false;
         };
-        self.bits & bit != 0
+        if place >= HIGHEST {
+            return false;
+        }
+        (self.bits >> place) & 1 == 1
     }
 
     /// The set with `number` in it. With 0, or a number above 128, it is the set as it was.
     pub fn with(self, number: usize) -> Self
-        ensures { (i : ℕ) → member_of result i ≡ and_also (member_of self) number i }
+        ensures { (i : ℕ) → member_of result.bits i ≡ and_also (member_of self.bits) number i }
     {
         let Some(bit) = bit_of(number) else {
             return self;
@@ -93,7 +82,7 @@ impl<K> Numbers<K> {
 
     /// The set without `number`.
     pub fn without(self, number: usize) -> Self
-        ensures { (i : ℕ) → member_of result i ≡ all_but (member_of self) number i }
+        ensures { (i : ℕ) → member_of result.bits i ≡ all_but (member_of self.bits) number i }
     {
         let Some(bit) = bit_of(number) else {
             return self;
@@ -103,14 +92,14 @@ impl<K> Numbers<K> {
 
     /// How many numbers the set holds.
     pub fn len(self) -> usize
-        ensures { result ≡ how_many 128 (member_of self) }
+        ensures { result ≡ how_many 128 (member_of self.bits) }
     {
         self.bits.count_ones() as usize
     }
 
     /// The lowest number of the set that is not below `number`.
     pub fn next_from(self, number: usize) -> Option<usize>
-        ensures { FirstFrom (member_of self) number result }
+        ensures { FirstFrom (member_of self.bits) number result }
     {
         if number > HIGHEST {
             return None;
@@ -125,7 +114,7 @@ impl<K> Numbers<K> {
 
     /// Whether each number of this set is in `other` too.
     pub fn is_subset(self, other: Self) -> bool
-        ensures { Decides result (PartOf (member_of self) (member_of other)) }
+        ensures { Decides result (PartOf (member_of self.bits) (member_of other.bits)) }
     {
         self.bits & other.bits == self.bits
     }
@@ -133,7 +122,7 @@ impl<K> Numbers<K> {
     /// The set as two words: bit 0 of the first stands for 1, bit 0 of the second for 65.
     // Kept: no plainer as `From`, since a pair of words does not say which is the low one; std's `to_le_bytes` has a name for the same reason.
     pub fn words(self) -> (u64, u64)
-        ensures { InWords self result.0 result.1 }
+        ensures { InWords self.bits result.0 result.1 }
     {
         (
             (self.bits & 0xffff_ffff_ffff_ffff) as u64,
@@ -143,7 +132,7 @@ impl<K> Numbers<K> {
 
     /// The set that two words stand for.
     pub fn from_words(first: u64, second: u64) -> Self
-        ensures { InWords result first second }
+        ensures { InWords result.bits first second }
     {
         Self::from_bits((second as u128) << 64 | first as u128)
     }

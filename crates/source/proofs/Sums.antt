@@ -26,6 +26,10 @@ pub sum_over_none : (f : ℕ → ℕ) → sum_over 0 f ≡ 0
 unfolding sum_over
 sum_over_none f = refl
 
+pub how_many_none : (S : ℕ → Bool) → how_many 0 S ≡ 0
+unfolding how_many
+how_many_none S = refl
+
 pub how_many_le : (k : ℕ) (S : ℕ → Bool) → how_many k S ≤ k
 unfolding how_many
 how_many_le zero S = omega arith

@@ -72,7 +72,7 @@ unless_refused (Some f) before added = before
 abbrev pub changed : ℕ → Meaning → Change → Meaning
 changed room M Clear = vacant
 changed room M AddUnknown = unless_refused (unknown_refusal M) M (with_column M)
-changed room M (AddEquation us) = unless_refused (row_refusal room M (member_of us)) M (with_row M (member_of us))
+changed room M (AddEquation us) = unless_refused (row_refusal room M (member_of us.bits)) M (with_row M (member_of us.bits))
 
 -- What a new unknown is: one number more, which no equation holds, and nothing else moves.
 pub record NewUnknown (M N : Meaning) : Type 0 where
@@ -92,13 +92,13 @@ pub record NewEquation (M : Meaning) (S : ℕ → Bool) (N : Meaning) : Type 0 w
 abbrev pub Comes : ℕ → Meaning → Change → Meaning → Type 0
 Comes room M Clear N = (N.m ≡ 0) × (N.n ≡ 0) × ((i j : ℕ) → N.holds i j ≡ false)
 Comes room M AddUnknown N = MatchOption (unknown_refusal M) (NewUnknown M N) (λ _. N ≡ M)
-Comes room M (AddEquation us) N = MatchOption (row_refusal room M (member_of us)) (NewEquation M (member_of us) N) (λ _. N ≡ M)
+Comes room M (AddEquation us) N = MatchOption (row_refusal room M (member_of us.bits)) (NewEquation M (member_of us.bits) N) (λ _. N ≡ M)
 
 -- when one change is refused
 abbrev pub change_refusal : ℕ → Meaning → Change → Option SourceFault
 change_refusal room M Clear = None
 change_refusal room M AddUnknown = unknown_refusal M
-change_refusal room M (AddEquation us) = row_refusal room M (member_of us)
+change_refusal room M (AddEquation us) = row_refusal room M (member_of us.bits)
 
 -- what a list of changes makes of it
 abbrev pub after_changes : ℕ → Meaning → List Change → Meaning

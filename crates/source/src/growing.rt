@@ -39,8 +39,8 @@ pub fn admits_equation<S: Source>(
     room: usize,
     unknowns: UnknownSet,
 ) -> Result<(), SourceFault>
-    ensures rule { Decided (row_refusal room (S.Source.means source.now) (member_of unknowns)) result }
-    ensures grounds { LowestGround (AgainstRow room (S.Source.means source.now) (member_of unknowns)) (row_refusal room (S.Source.means source.now) (member_of unknowns)) }
+    ensures rule { Decided (row_refusal room (S.Source.means source.now) (member_of unknowns.bits)) result }
+    ensures grounds { LowestGround (AgainstRow room (S.Source.means source.now) (member_of unknowns.bits)) (row_refusal room (S.Source.means source.now) (member_of unknowns.bits)) }
 {
     if source.equations() >= MOST_EQUATIONS {
         return Err(SourceFault::Limit);
@@ -88,7 +88,7 @@ pub trait Growing: Source {
 
     /// One equation more, which holds just `unknowns`.
     fn add_equation(&mut self, unknowns: UnknownSet) -> Result<(), SourceFault>
-        ensures { AddsBy (row_refusal ROOM (Self.Source.means self.old) (member_of unknowns)) (Self.Source.means self.old) (with_row (Self.Source.means self.old) (member_of unknowns)) (Self.Source.means self.new) result };
+        ensures { AddsBy (row_refusal ROOM (Self.Source.means self.old) (member_of unknowns.bits)) (Self.Source.means self.old) (with_row (Self.Source.means self.old) (member_of unknowns.bits)) (Self.Source.means self.new) result };
 }
 
 /// Carries out one change; a refused one leaves the source as it was.

@@ -31,11 +31,12 @@ fn print_layers<S: Source>(rt: &HostRuntime, source: &S) -> io::Result<()> {
 
 /// What builds the packaged model: four unknowns, six equations.
 pub(crate) fn changes() -> [Change; 10] {
+    let unknown = Change::AddUnknown;
     [
-        Change::AddUnknown,
-        Change::AddUnknown,
-        Change::AddUnknown,
-        Change::AddUnknown,
+        unknown,
+        unknown,
+        unknown,
+        unknown,
         equation(&[1]),
         equation(&[1, 2]),
         equation(&[2, 3]),

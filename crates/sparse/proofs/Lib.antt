@@ -1,3 +1,4 @@
 pub mod Numbers
 pub mod Kept
 pub mod Appending
+pub mod Added

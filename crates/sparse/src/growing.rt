@@ -5,7 +5,7 @@ ghost use Rattle.sparse.specs.Lists.{end_of, list_of, sparse_means, sparse_bound
 
 use crate::filling::fill;
 use crate::lists::Sparse;
-use arrayvec::ArrayVec;
+use fixed::lists::FixedList;
 use sets::numbers::UnknownSet;
 use source::faults::SourceFault;
 use source::growing::{Growing, admits_equation, admits_unknown};
@@ -17,8 +17,8 @@ impl Sparse {
         ensures { sparse_means result ≡ vacant }
     {
         Sparse {
-            cells: ArrayVec::new(),
-            starts: ArrayVec::new(),
+            cells: FixedList::new(0),
+            starts: FixedList::new(0),
             unknowns: 0,
         }
     }
@@ -28,6 +28,7 @@ impl Sparse {
         ensures { result ≡ end_of self.now equation }
     {
         self.starts
+            .as_slice()
             .get(equation)
             .copied()
             .unwrap_or(self.cells.len())
@@ -37,7 +38,7 @@ impl Sparse {
     fn list(&self, equation: usize) -> &[u8]
         ensures { result.now ≡ list_of self.now equation }
     {
-        &self.cells[self.end(equation.saturating_sub(1))..self.end(equation)]
+        &self.cells.as_slice()[self.end(equation.saturating_sub(1))..self.end(equation)]
     }
 }
 

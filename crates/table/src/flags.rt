@@ -8,7 +8,7 @@ use std::array;
 
 /// A flag for each number from 1 to 128: whether the set holds it.
 pub(crate) fn flags(unknowns: UnknownSet) -> [bool; MOST_UNKNOWNS]
-    ensures { (k : ℕ) → slice_index_or result k false ≡ member_of unknowns (k + 1) }
+    ensures { (k : ℕ) → slice_index_or result k false ≡ member_of unknowns.bits (k + 1) }
 {
     array::from_fn(|k| unknowns.holds(k + 1))
 }

@@ -5,10 +5,10 @@ ghost use Rattle.table.specs.Rows.{table_means, table_bounded};
 
 use crate::flags::flags;
 use crate::kept::Table;
-use arrayvec::ArrayVec;
+use fixed::lists::FixedList;
 use sets::numbers::UnknownSet;
 use source::faults::SourceFault;
-use source::growing::{Growing, admits_equation, admits_unknown};
+use source::growing::{Growing, MOST_UNKNOWNS, admits_equation, admits_unknown};
 use source::questions::Source;
 
 impl Table {
@@ -17,7 +17,7 @@ impl Table {
         ensures { table_means result ≡ vacant }
     {
         Table {
-            rows: ArrayVec::new(),
+            rows: FixedList::new([false; MOST_UNKNOWNS]),
             unknowns: 0,
         }
     }
@@ -26,8 +26,11 @@ impl Table {
     fn flag(&self, equation: usize, unknown: usize) -> Option<bool>
         ensures { MatchOption result ((table_means self.now).holds equation unknown ≡ false) (λ flag. (table_means self.now).holds equation unknown ≡ flag) }
     {
-        let row = self.rows.get(equation.checked_sub(1)?)?;
-        row.get(unknown.checked_sub(1)?).copied()
+        let row = self.rows.as_slice().get(equation.checked_sub(1)?)?;
+        if unknown > self.unknowns {
+            return None;
+        }
+        Some(row[unknown.checked_sub(1)?])
     }
 }
 

@@ -1,5 +1,5 @@
+use Rattle.std.proofs.Common.{sym}
 use Rattle.std.specs.Iterator.Adapters.{enumerate_source, enumerate_count}
-use Rattle.std.proofs.lemmas.Result.{err_from_is_err_and}
 use Rattle.account.proofs.Sofar.{line_on, all_lines, bad_line}
 use Rattle.account.proofs.checking.check_text.Goals as goal
 
@@ -9,19 +9,17 @@ loop-index-preserved c =
       (c.in-Some.ensures.goes.on tt).1,
       line_on
           c.args.text.now (enumerate_source c.loop-index.index-iterator) (enumerate_source c.next.new.self) (enumerate_count c.loop-index.index-iterator) (enumerate_count c.next.new.self)
-          c.loop-index.account c.note.new.self (c.in-Some.start, c.in-Some.end) c.in_ok-line.line
-          c.loop-index.invariant.1 s.0.1.0 s.0.0 s.0.1.1 s.2 c.in_ok-line.ensures c.note.ensures,
+          c.loop-index.account c.note.new.self (c.in-Some.start, c.in-Some.end) c.in-Ok.line
+          c.loop-index.invariant.1 s.0.1.0 s.0.0 s.0.1.1 s.2 c.in-Ok.ensures.value c.note.ensures,
     )
 
-pub returns-in_err-line : goal.returns-in_err-line
-returns-in_err-line c =
+pub returns-in-Err : goal.returns-in-Err
+returns-in-Err c =
     let s = c.in-Some.ensures.steps in
-    let e = c.in_err-line.ensures in
-    let p = err_from_is_err_and c.from_residual-in_err-line.result c.from_residual-in_err-line.ensures.1 in
     let bad = bad_line
     c.args.text.now (enumerate_source c.loop-index.index-iterator) (enumerate_count c.loop-index.index-iterator) c.loop-index.account
-    (c.in-Some.start, c.in-Some.end) c.in-Some.index e.0 c.in_err-line.field-0.0 c.loop-index.invariant.1 s.0.1.0 s.1 e.1 e.2 in
-    rw (p.1, p.2) (record { value = bad.0; law = bad.1 })
+    (c.in-Some.start, c.in-Some.end) c.in-Some.index c.in-Err.fault c.in_line.result c.loop-index.invariant.1 s.0.1.0 s.1 (sym c.in-Err.ensures.value) c.in_line.ensures in
+    record { value = bad.0; law = bad.1 }
 
 pub returns : goal.returns
 returns c =

@@ -28,6 +28,6 @@ pub returns : goal.returns
 returns c k =
     let long = c.from_fn.ensures.items.long in
     ⊎_elim
-    (λ (h : k < 128). made_at _ (λ k. member_of c.args.unknowns (k + 1)) _ (λ x y q t. search rules) c.from_fn.result 0 128 k false (omega arith) (omega arith) c.from_fn.ensures.items.each)
-    (λ (h : 128 ≤ k). get_or_past c.from_fn.result k false (omega arith) ∙ none_above c.args.unknowns k h)
+    (λ (h : k < 128). made_at _ (λ k. member_of c.args.unknowns.bits (k + 1)) _ (λ x y q t. search rules) c.from_fn.result 0 128 k false (omega arith) (omega arith) c.from_fn.ensures.items.each)
+    (λ (h : 128 ≤ k). get_or_past c.from_fn.result k false (omega arith) ∙ none_above c.args.unknowns.bits k h)
     (cases_lt k 128)

@@ -7,5 +7,5 @@ sum-requires-clause-fits c = let few = pairs_few c.args.self.now in search rules
 
 pub returns : goal.returns
 returns c =
-    let total : c.sum.result ≡ sum_by row_len c.args.self.now.rows.items = search rules in
+    let total : c.sum.result ≡ sum_by row_len c.args.self.now.rows = search rules in
     total ∙ pairs_counted c.args.self.now

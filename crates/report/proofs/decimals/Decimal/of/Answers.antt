@@ -1,18 +1,15 @@
-use Rattle.std.proofs.Common.{◌≡◌, length, decimal, ap, arith}
-use Rattle.std.proofs.lemmas.Fmt.{decimal_nonempty}
+use Rattle.std.proofs.Common.{◌≡◌, drop, decimal, ap, ◌∙◌, append-nil, arith, rules}
+use Rattle.std.proofs.lemmas.Fmt.{decimal_nonempty, length-decimal-le}
 use Rattle.report.proofs.Digits.{writes_number}
 use Rattle.report.proofs.decimals.Decimal.of.Goals as goal
 
-pub returns-clause-reads : goal.returns-clause-reads
-returns-clause-reads c =
-    let new = c.new-digits.ensures in
-    let text : c.format.result.now ≡ decimal c.args.n = c.format.ensures.text in
-    let pushed = c.push_str.ensures.bytes in
-    writes_number c.args.n _ (omega arith) (cc)
+pub write_digits-start-requires : goal.write_digits-start-requires
+write_digits-start-requires c = (length-decimal-le 10 c.from.result (omega arith) (omega (arith, c.from.ensures, c.ranges.n.fits)) (omega arith), omega arith)
+
+pub returns : goal.returns
+returns c =
+    let e : drop c.write_digits-start.result c.write_digits-start.new.buf ≡ decimal c.args.n = c.write_digits-start.ensures.written ∙ append-nil (decimal c.from.result) ∙ ap decimal c.from.ensures in
+    record { value = e; reads = writes_number c.args.n _ (omega arith) e }
 
 pub invariant_of-result : goal.invariant_of-result
-invariant_of-result c =
-    let new = c.new-digits.ensures in
-    let text : c.format.result.now ≡ decimal c.args.n = c.format.ensures.text in
-    let pushed : c.push_str.new.self.bytes ≡ decimal c.args.n = cc (c.push_str.ensures.bytes) in
-    record { some = omega (arith, ap length pushed, decimal_nonempty c.args.n (omega arith)) }
+invariant_of-result c = record { within = (omega (arith, c.write_digits-start.ensures.start, decimal_nonempty c.from.result (omega arith)), search rules) }

@@ -12,5 +12,5 @@ returns g c =
     let s = c.from_bits.ensures in
     let m = mod-eq_of_lt fb in
     let o = or_shifted b 64 a fa in
-    let e : c.from_bits.result ≡ b * 2 ^ 64 + a = cc in
+    let e : c.from_bits.result.bits ≡ b * 2 ^ 64 + a = cc in
     rw e (joined_words a b fa (omega arith))

@@ -1,11 +1,16 @@
-use Rattle.std.proofs.Common.{sym}
-use Rattle.sets.proofs.Bitwise.{members_tested, members_outside}
+use Rattle.std.proofs.Common.{arith}
+use Rattle.std.proofs.lemmas.Bool.Decides.{nat_tests}
+use Rattle.sets.specs.Members.{member_of}
+use Rattle.sets.proofs.Bitwise.{members_asked}
 use Rattle.sets.proofs.numbers.Numbers.holds.Goals as goal
 
 pub returns-in_default : goal.returns-in_default
-returns-in_default g c = sym (members_outside c.args.self c.args.number c.in_default.ensures)
+unfolding member_of
+returns-in_default g c = grind (arith, nat_tests)
+
+pub returns-then-place-ge-HIGHEST : goal.returns-then-place-ge-HIGHEST
+unfolding member_of
+returns-then-place-ge-HIGHEST g c = grind (arith, nat_tests)
 
 pub returns : goal.returns
-returns g c =
-    let o = c.in-Some.ensures in
-    rw (o.1, ← c.self.view_is) (members_tested c.self.inside.bits c.args.number o.0)
+returns g c = let o = c.in-Some.ensures in rw o.1 (members_asked c.args.self.bits c.args.number o.0 (omega arith))

@@ -3,4 +3,4 @@ use Rattle.sets.proofs.Bitwise.{subset_decided}
 use Rattle.sets.proofs.numbers.Numbers.is_subset.Goals as goal
 
 pub returns : goal.returns
-returns g c = subset_decided _ c.args.self c.args.other (omega arith) (cc)
+returns g c = subset_decided _ c.args.self.bits c.args.other.bits (omega arith) (cc)

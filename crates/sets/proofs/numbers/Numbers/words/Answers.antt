@@ -4,4 +4,4 @@ use Rattle.sets.proofs.Bitwise.{split_words}
 use Rattle.sets.proofs.numbers.Numbers.words.Goals as goal
 
 pub returns : goal.returns
-returns g c = let n = c.args.self in let m = and_mask n 64 in split_words n _ _ (omega arith) (cc) (cc)
+returns g c = let n = c.args.self.bits in let m = and_mask n 64 in split_words n _ _ (omega arith) (cc) (cc)

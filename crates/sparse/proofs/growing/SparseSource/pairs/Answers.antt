@@ -3,4 +3,4 @@ use Rattle.sparse.proofs.Kept.{cells_counted}
 use Rattle.sparse.proofs.growing.SparseSource.pairs.Goals as goal
 
 pub returns : goal.returns
-returns c = c.len.ensures.value ∙ cells_counted c.args.self.now
+returns c = c.len.ensures ∙ cells_counted c.args.self.now
