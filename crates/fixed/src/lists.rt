@@ -3,7 +3,7 @@ ghost use Rattle.std.specs.Prelude.{◌≡◌, ◌<◌, ◌≤◌, [], ◌∷◌
 
 use std::marker::Model;
 
-/// A list of at most `MOST` values. It takes no heap, and is emptied without a look at the values.
+/// A list of at most `MOST` values. It takes no heap, and emptying it takes as long for many values as for one.
 #[derive(Drop)]
 pub struct FixedList<T, const MOST: usize> {
     cells: [T; MOST],
@@ -66,7 +66,7 @@ impl<T: Copy, const MOST: usize> FixedList<T, MOST> {
         true
     }
 
-    /// Lets go of all values.
+    /// Empties the list.
     pub fn clear(&mut self)
         ensures { self.new ≡ [] }
     {

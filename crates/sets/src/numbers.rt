@@ -60,7 +60,7 @@ impl<K> Numbers<K> {
     pub fn holds(self, number: usize) -> bool
         ensures { result ≡ member_of self.bits number }
     {
-        // Kept: tried by `bit_of`, which took half as long again on the rows of a source.
+        // Kept: tried by `bit_of`, which took 1.8 times as long on the rows of a source.
         let Some(place) = number.checked_sub(1) else {
             return false;
         };

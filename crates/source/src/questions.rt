@@ -30,7 +30,7 @@ pub trait Source {
         let mut count: usize = 0;
         let equations = self.equations();
         let unknowns = self.unknowns();
-        // Kept: tried as `filter` and `count` of each row, which took three times as long and more on the table.
+        // Kept: tried as `filter` and `count` of each row, which took four times as long on the table.
         for i in 0..equations {
             for j in 0..unknowns {
                 if self.holds(i + 1, j + 1) {

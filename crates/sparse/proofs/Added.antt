@@ -37,8 +37,8 @@ module _ (s : Sparse) (bits : ℕ) (starts cells : List ℕ) (rule : row_refusal
       let a = accepted 1024 (sparse_means s) bits rule in
       rw (more a.few, filled) (starts_ordered s.starts s.cells (numbers_to 128 (member_of bits)) s.ordered)
 
-  pub lists_rising : (i : ℕ) → i < length starts → NumbersInOrder (list_at starts cells i)
-  lists_rising =
+  pub lists_in_order : (i : ℕ) → i < length starts → NumbersInOrder (list_at starts cells i)
+  lists_in_order =
       let S = member_of bits in
       let a = accepted 1024 (sparse_means s) bits rule in
       rw (more a.few, filled) (λ i h. lists_keep NumbersInOrder s.starts s.cells (numbers_to 128 S) s.ordered (numbers_again 128 S (members_within bits)) s.rising i h)

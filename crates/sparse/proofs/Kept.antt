@@ -41,8 +41,8 @@ list_rising s i p q =
     let e = list_is s i p in
     e ∙ s.rising (i - 1) (omega arith) ∙ ap (λ xs. numbers_to 128 (stands_in xs)) (sym e)
 
-pub list_known : (s : Sparse) (i j : ℕ) → 1 ≤ i → i ≤ length s.starts → in_list s i j ≡ true → one_of s.unknowns j ≡ true
-list_known s i j p q h = let f = s.fits (i - 1) j (omega arith) (rw (list_is s i p) at h) in grind (arith, nat_tests)
+known_of_equation : (s : Sparse) (i j : ℕ) → 1 ≤ i → i ≤ length s.starts → in_list s i j ≡ true → one_of s.unknowns j ≡ true
+known_of_equation s i j p q h = let f = s.fits (i - 1) j (omega arith) (rw (list_is s i p) at h) in grind (arith, nat_tests)
 
 -- what an equation holds is what stands in its list
 pub list_answers : (s : Sparse) (i j : ℕ) → in_list s i j ≡ (sparse_means s).holds i j
@@ -51,9 +51,13 @@ list_answers s i j =
     (λ (o : one_of (length s.starts) i ≡ true).
     let p : 1 ≤ i = grind (arith, nat_tests) in
     let q : i ≤ length s.starts = grind (arith, nat_tests) in
-    clip_kept _ _ i j (in_list s i j) p q (list_known s i j p q))
+    clip_kept _ _ i j (in_list s i j) p q (known_of_equation s i j p q))
     (λ (o : one_of (length s.starts) i ≡ false). rw (o, list_none s i o) refl)
     (cases_Bool (one_of (length s.starts) i))
+
+-- what stands in any list is an unknown
+pub list_known : (s : Sparse) (i j : ℕ) → in_list s i j ≡ true → one_of s.unknowns j ≡ true
+list_known s i j h = let a = list_answers s i j in grind (arith, nat_tests)
 
 -- the first number of a list that is not below j
 pub first_in_list : (s : Sparse) (i j : ℕ) (r : Option ℕ) → 1 ≤ j → r ≡ find (λ x. leb j x) (list_of s i) → NextUnknown (sparse_means s) i j r
@@ -86,7 +90,7 @@ lists_counted s (suc k) h =
     let f : k + 1 - 1 ≡ k = omega arith in
     let r = lists_counted s k (omega arith) in
     let few = s.few.1 in
-    let c = clip_counted (length s.starts) s.unknowns k (in_list s) (omega arith) few (λ j. list_known s (k + 1) j (omega arith) (omega arith)) in
+    let c = clip_counted (length s.starts) s.unknowns k (in_list s) (omega arith) few (λ j. known_of_equation s (k + 1) j (omega arith) (omega arith)) in
     let n = numbers_counted 128 (in_list s (k + 1)) in
     let l = ap length (list_rising s (k + 1) (omega arith) (omega arith)) in
     let o = s.ordered k (omega arith) in

@@ -1,7 +1,7 @@
 use Rattle.std.proofs.Common.{arith}
 use Rattle.source.proofs.Rules.{accepted}
 use Rattle.sparse.specs.Lists.{sparse_means}
-use Rattle.sparse.proofs.Added.{list_added, starts_few, starts_first, lists_ordered, lists_rising, lists_fit}
+use Rattle.sparse.proofs.Added.{list_added, starts_few, starts_first, lists_ordered, lists_in_order, lists_fit}
 use Rattle.sparse.proofs.Kept.{cells_counted}
 use Rattle.sparse.proofs.growing.SparseGrowing.add_equation.Goals as goal
 
@@ -21,7 +21,7 @@ invariant_of-self c =
       few = (starts_few s bits _ _ rule more filled, s.few.1);
       first = starts_first s bits _ _ rule more filled;
       ordered = lists_ordered s bits _ _ rule more filled;
-      rising = lists_rising s bits _ _ rule more filled;
+      rising = lists_in_order s bits _ _ rule more filled;
       fits = lists_fit s bits _ _ rule more filled;
     }
 
