@@ -1,9 +1,9 @@
 -- What `read_line` promises, from the checks that it makes. Assumes nothing.
-use Rattle.std.proofs.Common.{◌≡◌, ℕ, ◌≤◌, Bool, List, length, take, IfErr, Err, Option, Result, sym, ap, ◌∙◌, subst, arith, length-take-le}
+use Rattle.std.proofs.Common.{◌≡◌, ℕ, ◌≤◌, Bool, List, length, take, IfErr, Some, Err, Option, Result, sym, ap, ◌∙◌, subst, arith, length-take-le}
 use lib.ListN.{length-map}
 use Rattle.grammar.specs.declared.grounds.Ground.TheVariants.{WordCount}
 use Rattle.grammar.specs.declared.grounds.LineFault.{LineFault}
-use Rattle.line.specs.declared.marked.MarkedLine.{MarkedLine}
+use Rattle.grammar.specs.declared.marks.Kind.{Kind}
 use Rattle.line.specs.declared.places.Places.{Places}
 use Rattle.grammar.specs.Marks.{line_kind}
 use Rattle.grammar.specs.Reading.{stands, takes, takes_by, unless, line_words, line_reading}
@@ -18,10 +18,10 @@ use Rattle.line.specs.Records.{word_in, words_in, told, ReadsLine}
 places_counted : (line : List ℕ) (ps : Places) → length (words_in line ps) ≡ ps.len
 places_counted line ps = length-map (take ps.len ps.all) (word_in line) ∙ length-take-le ps.len ps.all (omega (arith, ps.within.0, ps.within.1))
 
-pub count_stands : (m : MarkedLine) (ps : Places) (b : Bool) → words_in m.line.now ps ≡ line_words m.line.now → takes m.kind ps.len ≡ b → stands m.line.now WordCount ≡ unless b
-count_stands m ps b words right =
-    let n : length (line_words m.line.now) ≡ ps.len = sym (ap length words) ∙ places_counted m.line.now ps in
-    ap (λ n. unless (takes_by (line_kind m.line.now) n)) n ∙ ap (λ o. unless (takes_by o ps.len)) m.marked ∙ ap unless right
+pub count_stands : (line : List ℕ) (ps : Places) (kind : Kind) (b : Bool) → words_in line ps ≡ line_words line → line_kind line ≡ Some kind → takes kind ps.len ≡ b → stands line WordCount ≡ unless b
+count_stands line ps kind b words k right =
+    let n : length (line_words line) ≡ ps.len = sym (ap length words) ∙ places_counted line ps in
+    ap (λ m. unless (takes_by (line_kind line) m)) n ∙ ap (λ o. unless (takes_by o ps.len)) k ∙ ap unless right
 
 -- the defined answer has every law
 pub reads_line : (line : List ℕ) (r : Result (Option Record) LineFault) → told line r ≡ line_reading line → ReadsLine line r

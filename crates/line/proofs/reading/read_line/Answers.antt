@@ -48,7 +48,7 @@ returns-in_err-right_count c =
     let k = c.in_ok-marked.ensures in
     let w = c.in_ok-words.ensures in
     let named = subst (λ l. stands l NotAName ≡ None) k.1 w.0 in
-    let counted = subst (λ l. stands l WordCount ≡ Some 0) k.1 (count_stands c.in_ok-marked.marked c.in_ok-words.words false w.1 e.1) in
+    let counted = subst (λ l. stands l WordCount ≡ Some 0) k.1 (count_stands c.in_ok-marked.marked.line.now c.in_ok-words.words c.in_ok-marked.marked.kind false w.1 c.in_ok-marked.marked.marked e.1) in
     refused_line line r c.in_err-right_count.field-0.0 (err_from_is_err_and r c.from_residual-in_err-right_count.ensures.1)
     (rw e.0 (miscounted_reads line sound.0 sound.1 0 k.0 named counted))
 
@@ -63,5 +63,5 @@ returns c =
     let words = subst (λ l. words_in l ps ≡ line_words l) k.1 w.1 in
     let kind = subst (λ l. line_kind l ≡ Some m.kind) k.1 m.marked in
     let named = subst (λ l. stands l NotAName ≡ None) k.1 w.0 in
-    let counted = subst (λ l. stands l WordCount ≡ None) k.1 (count_stands m ps true w.1 c.in_ok-right_count.ensures) in
+    let counted = subst (λ l. stands l WordCount ≡ None) k.1 (count_stands m.line.now ps m.kind true w.1 m.marked c.in_ok-right_count.ensures) in
     reads_line line (Ok (Some (record { kind = m.kind; words = ps }))) (accepted_reads line sound.0 sound.1 _ _ words kind k.0 named counted)
